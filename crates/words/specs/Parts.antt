@@ -4,7 +4,6 @@ use Prim.Native.Nat.{ℕ, _+_, _-_, _<_}
 use mathlib.Core.List.{List, [], _∷_, _++_, append-assoc, append-nil}
 use lib.ListN.{length, take, drop, set, getD, length-drop, length-append, drop-of-length-le}
 use lib.Seq.{take-all, take-append-seam, drop-append-seam, drop-drop, getD-drop, sets-eq}
-use native.Mathlib.Numerals.{one-add}
 use native.Mathlib.Omega.{arith}
 
 -- bytes laid over the front of a list
