@@ -1,0 +1,8 @@
+-- Definitions
+pub mod Limits
+pub mod Answers
+pub mod Step
+pub mod Seats
+-- Theorems
+pub mod Causes
+pub mod Promises
