@@ -29,6 +29,10 @@ use Rattle.desk.specs.declared.Ruling.the-variants.{Allowed, Told}
 
 -- ---- the rules
 
+-- a seat that has a lock is in another wake exactly if its wake differs from the released word
+pub other-wake : (locked : Bool) (wake r : ℕ) → locked ≡ true → not (eqb wake r) ≡ (locked && not (eqb wake r))
+other-wake locked wake r e = simp e
+
 module _ (s h r : ℕ) (v : Seat) (has-h : Bool) (eh : has-h ≡ has h s) where
   module _ (has-r : Bool) (er : has-r ≡ has r s) where
     pub rule-8 : has-h ≡ true → has-r ≡ true → told (refused 8) ≡ lockRule s h r v
