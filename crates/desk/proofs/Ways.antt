@@ -4,16 +4,16 @@ use mathlib.Core.Path.{_≡_, refl, sym, ap, ap₂, _∙_}
 use mathlib.Core.Bool.{Bool, true, false, not, _&&_}
 use mathlib.Core.List.{List, map}
 use Prim.Native.Nat.{ℕ, _+_, _≤_, _<_}
-use borrow.Author.Tests.{le-leb, lt-leb, eqb-true, not-false}
+use borrow.Author.Tests.{le-leb, lt-leb, not-false}
 use lib.Dec.{eqb}
 use lib.ListN.{length, getD, set, replicate}
-use lib.Seq.{set-getD}
-use Rattle.words.specs.Tests.{pick, and-iff}
+use Rattle.words.specs.Tests.{pick}
 use Rattle.words.specs.Word.{has, within, put}
 use Rattle.words.specs.WordLaws.{put-seat}
 use Rattle.trace.specs.Limits.{limit}
 use Rattle.desk.specs.Answers.{Said, started, wait, refused, held, granted, touched, released, finished, said, cleared, uncleared, Rule, allowed, told, rule}
 use Rattle.desk.specs.Step.{State, Outcome, state, outcome, after, clearOutcome, clearing, freeSeat, seatAt, seatSet, fitting, begunAt, beginStep, ruled, about, setBit, lockRule, withLock, lockStep, holdRule, touchStep, releaseStep, clearBit, leftWake, gone, finishStep, seatOf, kind, step}
+use Rattle.desk.specs.StepLaws.{seat-kept, fitting-same}
 use Rattle.desk.specs.Seats.{Locks, seatedAs, Touches, Releases}
 use Rattle.desk.specs.declared.Seat.{Seat}
 use Rattle.desk.specs.declared.Desk.{Desk}
@@ -92,10 +92,6 @@ module _ (st : State) (s a : ℕ) (f : ℕ → ℕ → Seat → Rule) (o : Outco
       about-done p = simp (lt-leb _ _ inside, live, sym e, p)
 
 -- ---- LOCK
-
--- the seat as it is, put back
-seat-kept : (d : Desk) (s : ℕ) {v : Seat} → seatAt d s ≡ v → seatSet d s v ≡ d
-seat-kept d s e = ap (λ (l : List Seat). record { seats = l; begun = d .begun }) (ap (set (d .seats) s) (sym e) ∙ set-getD (d .seats) s freeSeat)
 
 abbrev locked : Answer → Seat → Locked
 locked t v = record { answer = t; seat = v }
@@ -242,8 +238,7 @@ module _ (n : ℕ) (st : State) (q : Request) (f : Bool) (e : f ≡ fitting (len
 
 -- tables that serve are equally long
 pub same-long : (n m : ℕ) (f : Bool) → f ≡ fitting n m → not f ≡ false → n ≡ m
-unfolding fitting
-same-long n m f e t = eqb-true n m (and-iff (eqb n m) _ .0 (sym e ∙ not-false f t) .0)
+same-long n m f e t = fitting-same n m (sym e ∙ not-false f t)
 
 module _ (n : ℕ) (h l : List ℕ) (d : Desk) (q : Request) (f : Bool) (e : f ≡ fitting (length h) (length l)) (fits : not f ≡ false) (s : ℕ) (es : s ≡ seatOf q) (k : s < n) (u : ℕ) where
   -- the seat that is asked about is the request's

@@ -1,6 +1,6 @@
 -- Refusals 1 to 8, row by row of the paper's table, and that each is given exactly when its cause holds and no earlier one.
 use mathlib.Core.Path.{_≡_, refl, ap, subst}
-use mathlib.Core.Bool.{true, false, not, _&&_}
+use mathlib.Core.Bool.{true, false, not}
 use mathlib.Core.Logic.{_≢_, _↔_, _⊎_, inl, inr, ⊎-elim}
 use Prim.Native.Nat.{ℕ, suc, _≤_, _<_}
 use native.Mathlib.Decide.{ℕ-discrete}
@@ -9,10 +9,11 @@ use borrow.Author.Tests.{leb-true, leb-false, eqb-true, eqb-false, not-true, not
 use lib.Dec.{eqb, leb}
 use lib.ListN.{length, getD}
 use Rattle.words.specs.Tests.{either, clash, which, below, and-iff, not-both}
-use Rattle.words.specs.Word.{has, within}
+use Rattle.words.specs.Word.{has}
 use Rattle.trace.specs.Limits.{limit, records}
 use Rattle.desk.specs.Answers.{Said, refused, granted, held, touched, released, Rule}
 use Rattle.desk.specs.Step.{State, Outcome, state, outcome, seatAt, seatSet, setBit, withLock, fitting, beginStep, ruled, about, lockRule, lockStep, holdRule, touchStep, releaseStep, finishStep, seatOf, kind, step}
+use Rattle.desk.specs.StepLaws.{about-ways, lock-ways, hold-ways}
 use Rattle.desk.specs.declared.Seat.{Seat}
 use Rattle.desk.specs.declared.Request.{Request}
 use Rattle.desk.specs.declared.Request.the-variants.{Begin, Lock, Touch, Release, Finish}
@@ -185,43 +186,43 @@ module _ (n : ℕ) (st : State) where
       other (t, e) = clash (cc)
 
   -- LOCK, TOUCH and RELEASE of record a, which is the only one that they are about
-  module _ (q : Request) (a : ℕ) (about-a : About q a) (only : (b : ℕ) → About q b → b ≡ a) (other : ¬ Begins q) (f : ℕ → ℕ → Seat → Rule) (o : Outcome) where
-    about-right : Clear n st q 3
-        → (Clear n st q 7 → a < length (st .held) → Right n st q (ruled (f (getD (st .held) a 0) (getD (st .released) a 0) (seatAt (st .desk) (seatOf q))) st o))
+  module _ (q : Request) (a : ℕ) (about-a : About q a) (only : (b : ℕ) → About q b → b ≡ a) (other : ¬ Begins q) where
+    about-right : (f : ℕ → ℕ → Seat → Rule) (o : Outcome) → Clear n st q 3
+        → (Clear n st q 7 → Right n st q (ruled (f (getD (st .held) a 0) (getD (st .released) a 0) (seatAt (st .desk) (seatOf q))) st o))
         → Right n st q (about st (seatOf q) a f o)
-    unfolding about
-    about-right c3 g =
-        either (Right n st q) (leb (length (st .held)) a) (λ l. refusing n st q 3 c3 (no-record about-a (leb-true _ _ l))) (λ l.
-        let c5 = clear-on n st q 4 (clear-on n st q 3 c3 (no-3 n st q (λ b x. rw (only b x) (leb-false _ _ l)))) (no-4 n st q (λ b. absurd (other b))) in
-        either (Right n st q) (not (seatAt (st .desk) (seatOf q) .live)) (λ e. refusing n st q 5 c5 (free-seat other (not-true _ e))) (λ e.
-        g (clear-on n st q 6 (clear-on n st q 5 c5 (no-5 n st q (λ b. not-false _ e))) (no-6 n st q (λ b. absurd (other b)))) (leb-false _ _ l)))
+    about-right f o c3 g =
+        about-ways (Right n st q) st (seatOf q) a f o (λ l. refusing n st q 3 c3 (no-record about-a l))
+        (λ l e. refusing n st q 5 (five l) (free-seat other e))
+        (λ l e. g (clear-on n st q 6 (clear-on n st q 5 (five l) (no-5 n st q (λ b. e))) (no-6 n st q (λ b. absurd (other b)))))
+      where
+        five : a < length (st .held) → Clear n st q 5
+        five l = clear-on n st q 4 (clear-on n st q 3 c3 (no-3 n st q (λ b x. rw (only b x) l))) (no-4 n st q (λ b. absurd (other b)))
 
     -- no cause 8 where not both bits are set
     clear-9 : Clear n st q 8 → (has (getD (st .held) a 0) (seatOf q) ≡ true → has (getD (st .released) a 0) (seatOf q) ≡ false) → Clear n st q 9
     clear-9 c8 g = clear-on n st q 8 c8 (no-8 n st q (λ b x. rw (only b x) g))
 
-  -- the rule of TOUCH and RELEASE, which then say x
+  -- TOUCH and RELEASE, which say x where the rule allows it
   module _ (q : Request) (a : ℕ) (holds : Holding q a) (only : (b : ℕ) → About q b → b ≡ a) (other : ¬ Begins q) (x : Said) (left : State) (good : (k : ℕ) → x ≡ refused k → ⊥) where
     hold-right : Clear n st q 3 → Right n st q (about st (seatOf q) a (holdRule (seatOf q)) (outcome x left))
-    unfolding holdRule ruled
+    unfolding ruled
     hold-right c3 =
-        about-right q a (holding holds) only other (holdRule (seatOf q)) (outcome x left) c3 (λ c7 l.
-        either (λ r. Right n st q (ruled r st (outcome x left))) (not (has (getD (st .held) a 0) (seatOf q))) (λ e. refusing n st q 7 c7 (not-held holds (not-true _ e))) (λ e.
-        let c8 = clear-on n st q 7 c7 (no-7 n st q (λ b y. rw (only b (holding y)) (not-false _ e))) in
-        either (λ r. Right n st q (ruled r st (outcome x left))) (has (getD (st .released) a 0) (seatOf q)) (λ d. refusing n st q 8 c8 (given-up (holding holds) (not-false _ e) d)) (λ d.
-        passing n st q (clear-9 q a (holding holds) only other (holdRule (seatOf q)) (outcome x left) c8 (λ t. d)) good)))
+        about-right q a (holding holds) only other (holdRule (seatOf q)) (outcome x left) c3 (λ c7.
+        let eight : has (getD (st .held) a 0) (seatOf q) ≡ true → Clear n st q 8 = λ e. clear-on n st q 7 c7 (no-7 n st q (λ b y. rw (only b (holding y)) e)) in
+        hold-ways (λ r. Right n st q (ruled r st (outcome x left))) (seatOf q) _ _ _ (λ e. refusing n st q 7 c7 (not-held holds e))
+        (λ e d. refusing n st q 8 (eight e) (given-up (holding holds) e d))
+        (λ e d. passing n st q (clear-9 q a (holding holds) only other (eight e) (λ t. d)) good))
 
   lock-right : (s a : ℕ) → Clear n st (Lock s a) 3 → Right n st (Lock s a) (lockStep st s a)
-  unfolding lockStep lockRule ruled
+  unfolding lockStep ruled
   lock-right s a c3 =
-      about-right q a locking only other (lockRule s) o c3 (λ c7 l.
+      about-right q a locking only other (lockRule s) o c3 (λ c7.
       let c8 = clear-on n st q 7 c7 (no-7 n st q (λ b y. absurd (unheld y))) in
-      let nine = clear-9 q a locking only other (lockRule s) o c8 in
-      either (λ r. Right n st q (ruled r st o)) (has (getD (st .held) a 0) s) (λ e.
-      either (λ r. Right n st q (ruled r st o)) (has (getD (st .released) a 0) s) (λ d. refusing n st q 8 c8 (given-up locking e d)) (λ d. passing n st q (nine (λ t. d)) (λ k z. clash (cc)))) (λ e.
-      either (λ r. Right n st q (ruled r st o)) (not (within (getD (st .held) a 0) (getD (st .released) a 0))) (λ w. passing n st q (nine (λ t. not-both t e)) (λ k z. clash (cc))) (λ w.
-      either (λ r. Right n st q (ruled r st o)) (seatAt (st .desk) s .locked && not (eqb (seatAt (st .desk) s .wake) (getD (st .released) a 0))) (λ w. passing n st q (nine (λ t. not-both t e)) (λ k z. clash (cc))) (λ w.
-      passing n st q (nine (λ t. not-both t e)) (λ k z. clash (cc))))))
+      let nine = clear-9 q a locking only other c8 in
+      lock-ways (λ r. Right n st q (ruled r st o)) s _ _ _ (λ e d. refusing n st q 8 c8 (given-up locking e d)) (λ e d. passing n st q (nine (λ t. d)) (λ k z. clash (cc)))
+      (λ e w. passing n st q (nine (λ t. not-both t e)) (λ k z. clash (cc)))
+      (λ e w v. passing n st q (nine (λ t. not-both t e)) (λ k z. clash (cc)))
+      (λ e w v. passing n st q (nine (λ t. not-both t e)) (λ k z. clash (cc))))
     where
       q : Request
       q = Lock s a

@@ -5,7 +5,7 @@ ghost use Prim.Native.Nat.{_+_, _≤_, _<_};
 ghost use lib.ListN.{length};
 ghost use Rattle.words.specs.Parts.{over, lay};
 ghost use Rattle.trace.specs.Limits.{limit};
-ghost use Rattle.trace.specs.Answers.{number, numberSaid, readingSaid, writingSaid};
+ghost use Rattle.trace.specs.Answers.{number, numberSaid, readingSaid};
 ghost use Rattle.trace.specs.Numbers.{readNumber, spellNumber, judge};
 ghost use Rattle.trace.specs.Events.{fairTicket, fairPair, pairSaid, readAt, readTicket, asRecord, readPair, ofTicket, ofPair, put, wrote, writeAt};
 
@@ -63,7 +63,7 @@ enum Couple {
 }
 
 // The paper's number of a fault.
-pub fn refusal(fault: Fault) -> u32
+pub fn refusal_number(fault: Fault) -> u32
     ensures { λ r. ⌜ r ≡ number fault ⌝ }
 {
     match fault {
@@ -73,4 +73,309 @@ pub fn refusal(fault: Fault) -> u32
         Fault::Range => 23,
         Fault::Room => 24,
     }
+}
+
+// The event at the front of the rest of a trace.
+pub fn read(rest: &[u8]) -> Reading
+    ensures { λ r. ⌜ readingSaid r ≡ readAt (now (rest .entry)) ⌝ }
+{
+    if rest.len() == 0 {
+        return Reading::End;
+    }
+    let kind = rest[0];
+    match kind {
+        1 => started(ticket(rest)),
+        2 => granted(pair(rest)),
+        3 => touched(pair(rest)),
+        4 => released(pair(rest)),
+        5 => finished(ticket(rest)),
+        _ => Reading::Unread(Fault::Kind),
+    }
+}
+
+// A started event, by the ticket that was read.
+fn started(read: Numeral) -> Reading
+    ensures { λ r. ⌜ readingSaid r ≡ ofTicket Event.Started (numberSaid read) ⌝ }
+{
+    match read {
+        Numeral::Value {
+            number: ticket,
+            length,
+        } => Reading::Found {
+            event: Event::Started { ticket },
+            length,
+        },
+        Numeral::Bad(f) => Reading::Unread(f),
+    }
+}
+
+// A granted event, by the ticket and the record that were read.
+fn granted(read: Couple) -> Reading
+    ensures { λ r. ⌜ readingSaid r ≡ ofPair Event.Granted (pairSaid read) ⌝ }
+{
+    match read {
+        Couple::Both {
+            ticket,
+            record,
+            length,
+        } => Reading::Found {
+            event: Event::Granted { ticket, record },
+            length,
+        },
+        Couple::Wrong(f) => Reading::Unread(f),
+    }
+}
+
+// A touched event.
+fn touched(read: Couple) -> Reading
+    ensures { λ r. ⌜ readingSaid r ≡ ofPair Event.Touched (pairSaid read) ⌝ }
+{
+    match read {
+        Couple::Both {
+            ticket,
+            record,
+            length,
+        } => Reading::Found {
+            event: Event::Touched { ticket, record },
+            length,
+        },
+        Couple::Wrong(f) => Reading::Unread(f),
+    }
+}
+
+// A released event.
+fn released(read: Couple) -> Reading
+    ensures { λ r. ⌜ readingSaid r ≡ ofPair Event.Released (pairSaid read) ⌝ }
+{
+    match read {
+        Couple::Both {
+            ticket,
+            record,
+            length,
+        } => Reading::Found {
+            event: Event::Released { ticket, record },
+            length,
+        },
+        Couple::Wrong(f) => Reading::Unread(f),
+    }
+}
+
+// A finished event.
+fn finished(read: Numeral) -> Reading
+    ensures { λ r. ⌜ readingSaid r ≡ ofTicket Event.Finished (numberSaid read) ⌝ }
+{
+    match read {
+        Numeral::Value {
+            number: ticket,
+            length,
+        } => Reading::Found {
+            event: Event::Finished { ticket },
+            length,
+        },
+        Numeral::Bad(f) => Reading::Unread(f),
+    }
+}
+
+// The ticket of the event at the front, with the length up to its end.
+fn ticket(rest: &[u8]) -> Numeral
+    requires { ⌜ 0 < length (now rest) ⌝ }
+    ensures { λ r. ⌜ numberSaid r ≡ readTicket (now (rest .entry)) ⌝ }
+{
+    let got = number(&rest[1..]);
+    let Numeral::Value {
+        number: t,
+        length: n,
+    } = got
+    else {
+        return got;
+    };
+    if t == 0 {
+        return Numeral::Bad(Fault::Range);
+    }
+    Numeral::Value {
+        number: t,
+        length: 1 + n,
+    }
+}
+
+// The ticket and the record of the event at the front, with its length.
+fn pair(rest: &[u8]) -> Couple
+    requires { ⌜ 0 < length (now rest) ⌝ }
+    ensures { λ r. ⌜ pairSaid r ≡ readPair (now (rest .entry)) ⌝ }
+{
+    match ticket(rest) {
+        Numeral::Value {
+            number: t,
+            length: n,
+        } => record(&rest[n..], t, n),
+        Numeral::Bad(f) => Couple::Wrong(f),
+    }
+}
+
+// The record that follows the first n bytes of an event of ticket t.
+fn record(rest: &[u8], t: u32, n: usize) -> Couple
+    requires { ⌜ n < 5 ⌝ }
+    ensures { λ r. ⌜ pairSaid r ≡ asRecord t n (readNumber (now (rest .entry))) ⌝ }
+{
+    match number(rest) {
+        Numeral::Value {
+            number: r,
+            length: m,
+        } => {
+            if RECORDS <= r {
+                return Couple::Wrong(Fault::Range);
+            }
+            Couple::Both {
+                ticket: t,
+                record: r,
+                length: n + m,
+            }
+        }
+        Numeral::Bad(f) => Couple::Wrong(f),
+    }
+}
+
+// The number at the front of a part.
+pub fn number(rest: &[u8]) -> Numeral
+    ensures { λ r. ⌜ numberSaid r ≡ readNumber (now (rest .entry)) ⌝ }
+{
+    if rest.len() < 1 {
+        return Numeral::Bad(Fault::Cut);
+    }
+    let a = rest[0] as u32;
+    if a < 128 {
+        return Numeral::Value {
+            number: a,
+            length: 1,
+        };
+    }
+    if rest.len() < 2 {
+        return Numeral::Bad(Fault::Cut);
+    }
+    let b = rest[1] as u32;
+    if b < 128 {
+        return judged(b, a - 128 + 128 * b, 2);
+    }
+    if rest.len() < 3 {
+        return Numeral::Bad(Fault::Cut);
+    }
+    let c = rest[2] as u32;
+    if c < 128 {
+        return judged(c, a - 128 + 128 * (b - 128) + 16384 * c, 3);
+    }
+    Numeral::Bad(Fault::Spelling)
+}
+
+// A number n of two or three bytes, by its last byte: that is not 0 in the shortest spelling.
+fn judged(last: u32, n: u32, length: usize) -> Numeral
+    ensures { λ r. ⌜ numberSaid r ≡ judge last n length ⌝ }
+{
+    if last == 0 {
+        return Numeral::Bad(Fault::Spelling);
+    }
+    if n <= LIMIT {
+        return Numeral::Value { number: n, length };
+    }
+    Numeral::Bad(Fault::Spelling)
+}
+
+// Writes an event at the front of the room, or nothing.
+pub fn write(room: &mut [u8], event: Event) -> Writing
+    ensures { λ r. ⌜ wrote r (now (room .exit)) ≡ writeAt event (now (room .entry)) ⌝ }
+{
+    match event {
+        Event::Started { ticket } => put_one(room, 1, ticket),
+        Event::Granted { ticket, record } => put_two(room, 2, ticket, record),
+        Event::Touched { ticket, record } => put_two(room, 3, ticket, record),
+        Event::Released { ticket, record } => put_two(room, 4, ticket, record),
+        Event::Finished { ticket } => put_one(room, 5, ticket),
+    }
+}
+
+// Writes a kind byte and a ticket.
+fn put_one(room: &mut [u8], kind: u8, t: u32) -> Writing
+    ensures { λ w. ⌜ wrote w (now (room .exit)) ≡ put (fairTicket t) (kind ∷ spellNumber t) (now (room .entry)) ⌝ }
+{
+    if !fair_ticket(t) {
+        return Writing::Unwritten(Fault::Range);
+    }
+    let length = 1 + width(t);
+    if room.len() < length {
+        return Writing::Unwritten(Fault::Room);
+    }
+    room[0] = kind;
+    put_at(room, 1, t);
+    Writing::Written { length }
+}
+
+// Writes a kind byte, a ticket and a record.
+fn put_two(room: &mut [u8], kind: u8, t: u32, r: u32) -> Writing
+    ensures { λ w. ⌜ wrote w (now (room .exit)) ≡ put (fairPair t r) (kind ∷ spellNumber t ++ spellNumber r) (now (room .entry)) ⌝ }
+{
+    if !fair_pair(t, r) {
+        return Writing::Unwritten(Fault::Range);
+    }
+    let at = 1 + width(t);
+    let end = at + width(r);
+    if room.len() < end {
+        return Writing::Unwritten(Fault::Room);
+    }
+    room[0] = kind;
+    put_at(room, 1, t);
+    put_at(room, at, r);
+    Writing::Written { length: end }
+}
+
+// Ticket 1 to 65,535.
+fn fair_ticket(t: u32) -> bool
+    ensures { λ b. ⌜ b ≡ fairTicket t ⌝ }
+{
+    t <= LIMIT && t != 0
+}
+
+// And record 0 to 4,095.
+fn fair_pair(t: u32, r: u32) -> bool
+    ensures { λ b. ⌜ b ≡ fairPair t r ⌝ }
+{
+    fair_ticket(t) && r < RECORDS
+}
+
+// How many bytes a number takes.
+fn width(n: u32) -> usize
+    ensures { λ w. ⌜ (w ≡ length (spellNumber n)) × (w < 4) ⌝ }
+{
+    if n < 128 {
+        return 1;
+    }
+    if n < 16384 {
+        return 2;
+    }
+    3
+}
+
+// Puts a number at `at`, where there is room for it.
+fn put_at(room: &mut [u8], at: usize, n: u32)
+    requires { ⌜ (n ≤ limit) × (at + length (spellNumber n) ≤ length (now room)) ⌝ }
+    ensures { λ _. ⌜ now (room .exit) ≡ lay at (spellNumber n) (now (room .entry)) ⌝ }
+{
+    put_number(&mut room[at..], n);
+}
+
+// Puts a number at the front of a part that has room for it.
+fn put_number(room: &mut [u8], n: u32)
+    requires { ⌜ (n ≤ limit) × (length (spellNumber n) ≤ length (now room)) ⌝ }
+    ensures { λ _. ⌜ now (room .exit) ≡ over (spellNumber n) (now (room .entry)) ⌝ }
+{
+    if n < 128 {
+        room[0] = n as u8;
+        return;
+    }
+    if n < 16384 {
+        room[0] = (128 + n % 128) as u8;
+        room[1] = (n / 128) as u8;
+        return;
+    }
+    room[0] = (128 + n % 128) as u8;
+    room[1] = (128 + n / 128 % 128) as u8;
+    room[2] = (n / 16384) as u8;
 }

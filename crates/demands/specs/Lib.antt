@@ -1,0 +1,6 @@
+-- A run of the desk
+pub mod Run
+-- What the desk keeps
+pub mod Bits
+pub mod Views
+pub mod Keeps

@@ -1,0 +1,140 @@
+-- A refusal is given exactly when its cause is there, and a refused write leaves the room as it was.
+use mathlib.Core.Path.{_≡_, refl, sym, subst, ap, _∙_}
+use mathlib.Core.Logic.{_≢_, _↔_, ⊎-elim}
+use mathlib.Core.Bool.{true, false}
+use Prim.Native.Nat.{ℕ, suc, _<_, _≤_}
+use mathlib.Core.List.{List, [], _∷_}
+use lib.Seq.{drop-append-seam}
+use native.Mathlib.Numerals.{one-add}
+use native.Mathlib.Omega.{arith}
+use borrow.Author.Tests.{le-ltb, ne-eqb, eqb-true, eqb-false}
+use lib.ListN.{length}
+use lib.Dec.{eqb}
+use Rattle.words.specs.Tests.{pick, clash, which, below, not-both, not-iff}
+use Rattle.words.specs.Parts.{Bytes}
+use Rattle.trace.specs.Limits.{limit, records}
+use Rattle.trace.specs.Answers.{value, no-value, end, no-event, unwritten}
+use Rattle.trace.specs.Numbers.{spellNumber, readNumber}
+use Rattle.trace.specs.Events.{spell, fair, fairTicket, fairPair, asTicket, asRecord, readTicket, afterTicket, readPair, no-pair, ofTicket, ofPair, byKind, readAt, Wrote, writeAt}
+use Rattle.trace.specs.Causes.{Front, NoNumber, KnownKind, WithRecord, ReadCause, no-kind, no-ticket, ticket-zero, no-record, record-over, ticketOf, recordOf, Ranged, WriteCause, zero-ticket, large-ticket, large-record, no-room}
+use Rattle.trace.specs.NumberLaws.{number-back, number-none, NumberSeen, bad, number-seen}
+use Rattle.trace.specs.EventLaws.{fair-ticket, fair-pair, EventSeen, nothing, refused, event-seen, KindSeen, single, double, other, known, kind-seen}
+use Rattle.trace.specs.WriteLaws.{Puts, unfair, full, done, puts, put-unfair, put-full}
+use Rattle.trace.specs.declared.Event.{Event}
+use Rattle.trace.specs.declared.Event.the-variants.{Started, Granted, Touched, Released, Finished}
+
+-- a number that stands at the front reads, and then what follows it
+front-back : {n : ℕ} {l m : List ℕ} → Front n l m → readNumber l ≡ value n (length (spellNumber n))
+front-back {n} {l} {m} f = ap readNumber (f .spelt) ∙ number-back n (f .small) m
+
+-- where the ticket is refused so is the event, whatever its kind
+ticket-refused : {k x : ℕ} (l : List ℕ) → KnownKind k → readTicket (k ∷ l) ≡ no-value x → readAt (k ∷ l) ≡ no-event x
+unfolding readAt readPair afterTicket ofTicket ofPair
+ticket-refused {k} {x} l y e = go (kind-seen k)
+  where
+    go : KindSeen k → byKind k (k ∷ l) ≡ no-event x
+    go (single s) = rw (s .reads (k ∷ l), e)
+    go (double s) = rw (s .reads (k ∷ l), e)
+    go (other n r) = absurd (n y)
+
+-- and where the record is refused, after a ticket that is not 0
+record-refused : {k t x : ℕ} {l m : List ℕ} → WithRecord k → Front t l m → t ≢ 0
+    → asRecord t (suc (length (spellNumber t))) (readNumber m) ≡ no-pair x → readAt (k ∷ l) ≡ no-event x
+unfolding readAt readPair readTicket asTicket afterTicket ofPair pick
+record-refused {k} {t} {x} {l} {m} y f z e = go (kind-seen k)
+  where
+    go : KindSeen k → byKind k (k ∷ l) ≡ no-event x
+    go (single s) = absurd (s .alone y)
+    go (double s) = rw (s .reads (k ∷ l), front-back f, ne-eqb t 0 z, one-add, f .spelt, drop-append-seam, e)
+    go (other n r) = absurd (n (known y))
+
+-- a cause that is there is given
+read-cause : {k : ℕ} {l : List ℕ} → ReadCause k l → readAt l ≡ no-event k
+unfolding readAt readTicket asTicket asRecord pick
+read-cause (no-kind {k} {l} n) = go (kind-seen k)
+  where
+    go : KindSeen k → byKind k (k ∷ l) ≡ no-event 22
+    go (single s) = absurd (n (s .kind))
+    go (double s) = absurd (n (known (s .kind)))
+    go (other n r) = r (k ∷ l)
+read-cause (no-ticket {l} y b) = ticket-refused l y (rw (number-none b))
+read-cause (ticket-zero {l} y f) = ticket-refused l y (rw (front-back f))
+read-cause (no-record y f z b) = record-refused y f z (rw (number-none b))
+read-cause (record-over {r} y f z g h) = record-refused y f z (rw (front-back g, le-ltb r records h))
+
+-- a number is refused with k exactly when k's cause is there
+pub number-refused : (l : List ℕ) → Bytes l → (k : ℕ) → (readNumber l ≡ no-value k) ↔ NoNumber k l
+number-refused l by k = (λ e. taken (subst (λ r. NumberSeen l r) e (number-seen l by)), number-none)
+  where
+    taken : {k : ℕ} → NumberSeen l (no-value k) → NoNumber k l
+    taken (bad c) = c
+
+-- the end is read exactly when nothing is left
+pub read-ended : (l : List ℕ) → Bytes l → (readAt l ≡ end) ↔ (l ≡ [])
+unfolding readAt
+read-ended l by = (λ e. taken (subst (λ r. EventSeen l r) e (event-seen l by)), λ e. ap readAt e)
+  where
+    taken : EventSeen l end → l ≡ []
+    taken (nothing e) = e
+
+-- reading is refused with k exactly when k's cause is there
+pub read-refused : (l : List ℕ) → Bytes l → (k : ℕ) → (readAt l ≡ no-event k) ↔ ReadCause k l
+read-refused l by k = (λ e. taken (subst (λ r. EventSeen l r) e (event-seen l by)), read-cause)
+  where
+    taken : {k : ℕ} → EventSeen l (no-event k) → ReadCause k l
+    taken (refused c) = c
+
+-- an event is fair exactly when its ticket and record are in their ranges
+both : (t r : ℕ) → (fairPair t r ≡ true) ↔ Ranged t r
+both t r = (
+  λ f. let h = fair-pair t r .0 f in let g = fair-ticket t .0 (h .0) in record { some = g .1; most = g .0; few = h .1 },
+  λ h. fair-pair t r .1 (fair-ticket t .1 (h .most, h .some), h .few),
+)
+
+alone : (t : ℕ) → (fairTicket t ≡ true) ↔ Ranged t 0
+alone t = (λ f. let g = fair-ticket t .0 f in record { some = g .1; most = g .0; few = omega arith }, λ h. fair-ticket t .1 (h .most, h .some))
+
+pub fair-ranged : (e : Event) → (fair e ≡ true) ↔ Ranged (ticketOf e) (recordOf e)
+fair-ranged (Started t) = alone t
+fair-ranged (Granted t r) = both t r
+fair-ranged (Touched t r) = both t r
+fair-ranged (Released t r) = both t r
+fair-ranged (Finished t) = alone t
+
+-- else its ticket is 0 or too large, or its record is
+unfair-cause : (e : Event) (room : List ℕ) → fair e ≡ false → WriteCause 23 e room
+unfair-cause e room f =
+    ⊎-elim large-ticket
+    (λ p.
+    ⊎-elim (λ z. zero-ticket (eqb-true (ticketOf e) 0 z)) (λ z. ⊎-elim (fine p z) large-record (below (recordOf e) records)) (which (eqb (ticketOf e) 0)))
+    (below limit (ticketOf e))
+  where
+    fine : ticketOf e ≤ limit → eqb (ticketOf e) 0 ≡ false → recordOf e < records → WriteCause 23 e room
+    fine p z q = not-both (fair-ranged e .1 (record { some = eqb-false (ticketOf e) 0 z; most = p; few = q })) f
+
+-- writing is refused with k exactly when k's cause is there
+pub write-refused : (e : Event) (room : List ℕ) (k : ℕ) → (writeAt e room .says ≡ unwritten k) ↔ WriteCause k e room
+write-refused e room k = (go (puts (fair e) (spell e) room), cause)
+  where
+    go : {w : Wrote} → Puts (fair e) (spell e) room w → w .says ≡ unwritten k → WriteCause k e room
+    go (unfair f) h = let x : 23 ≡ k = cc in subst (λ k. WriteCause k e room) x (unfair-cause e room f)
+    go (full f p) h = let x : 24 ≡ k = cc in subst (λ k. WriteCause k e room) x (no-room (fair-ranged e .0 f) p)
+    go (done f p) h = absurd (clash (cc))
+
+    not-fair : ¬ Ranged (ticketOf e) (recordOf e) → writeAt e room .says ≡ unwritten 23
+    not-fair n = ap (λ (w : Wrote). w .says) (sym (put-unfair (fair e) (spell e) room refl (not-iff (fair e) .1 (λ f. n (fair-ranged e .0 f)))))
+
+    cause : {k : ℕ} → WriteCause k e room → writeAt e room .says ≡ unwritten k
+    cause (zero-ticket z) = not-fair (λ h. h .some z)
+    cause (large-ticket p) = not-fair (λ h. absurd (omega arith))
+    cause (large-record p) = not-fair (λ h. absurd (omega arith))
+    cause (no-room h p) = ap (λ (w : Wrote). w .says) (sym (put-full (fair e) (spell e) room refl (simp (fair-ranged e .1 h)) p))
+
+-- a refused write leaves the room as it was
+pub write-kept : (e : Event) (room : List ℕ) {k : ℕ} → writeAt e room .says ≡ unwritten k → writeAt e room .room ≡ room
+write-kept e room {k} h = go (puts (fair e) (spell e) room) h
+  where
+    go : {w : Wrote} → Puts (fair e) (spell e) room w → w .says ≡ unwritten k → w .room ≡ room
+    go (unfair f) h = refl
+    go (full f p) h = refl
+    go (done f p) h = absurd (clash (cc))
