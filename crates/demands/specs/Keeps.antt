@@ -21,7 +21,7 @@ use Rattle.trace.specs.Traces.{AllFair, more}
 use Rattle.desk.specs.declared.Request.{Request}
 use Rattle.desk.specs.declared.Request.the-variants.{Begin, Lock, Touch, Release, Finish}
 use Rattle.desk.specs.Answers.{refused, granted, released}
-use Rattle.desk.specs.Step.{Outcome, state, outcome, seatAt, seatSet, fitting, begunAt, beginStep, ruled, about, setBit, lockRule, withLock, lockStep, holdRule, touchStep, releaseStep, gone, finishStep, seatOf, kind, step}
+use Rattle.desk.specs.Step.{Outcome, state, outcome, seatAt, seatSet, fitting, begunAt, beginStep, ruled, about, setBit, grant, lockRule, withLock, lockStep, holdRule, touchStep, releaseStep, gone, finishStep, seatOf, kind, step}
 use Rattle.desk.specs.StepLaws.{seat-kept, fitting-same, fitting-small, about-ways, lock-ways, hold-ways}
 use Rattle.rules.specs.Facts.{gave-had}
 use Rattle.rules.specs.View.{ReleasedByAll, WakeIs}
@@ -142,7 +142,7 @@ module _ {n : ℕ} {m : Moment} (G : Good n m) where
   -- a grant, to a seat that passed the tests
   keeps-grant : (s a : ℕ) → s < n → seatAt (m .state .desk) s .live ≡ true → a < length (m .state .held) → has (getD (m .state .held) a 0) s ≡ false
       → ReleasedByAll (view (m .state)) a → WakeIs (view (m .state)) s a
-      → Keeps (Lock s a) (outcome granted (state (setBit (m .state .held) s a) (m .state .released) (seatSet (m .state .desk) s (withLock (seatAt (m .state .desk) s) (getD (m .state .released) a 0)))))
+      → Keeps (Lock s a) (outcome granted (grant (m .state) s a))
   unfolding withLock
   keeps-grant s a small live inside new all wake =
       record {
@@ -166,7 +166,7 @@ module _ {n : ℕ} {m : Moment} (G : Good n m) where
       (λ new w v. keeps-grant s a small live inside new (released-by-all a w) (wake-is s a v)))
     where
       o : Outcome
-      o = outcome granted (state (setBit (m .state .held) s a) (m .state .released) (seatSet (m .state .desk) s (withLock (seatAt (m .state .desk) s) (getD (m .state .released) a 0))))
+      o = outcome granted (grant (m .state) s a)
 
   -- ---- FINISH
   keeps-finish : (s : ℕ) → s < n → Keeps (Finish s) (finishStep (m .state) s)

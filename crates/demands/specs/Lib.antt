@@ -4,3 +4,6 @@ pub mod Run
 pub mod Bits
 pub mod Views
 pub mod Keeps
+pub mod Runs
+-- The demands
+pub mod DemandTwo

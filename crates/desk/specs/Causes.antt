@@ -1,7 +1,8 @@
 -- Refusals 1 to 8, row by row of the paper's table, and that each is given exactly when its cause holds and no earlier one.
-use mathlib.Core.Path.{_≡_, refl, ap, subst}
+use mathlib.Core.Path.{_≡_, refl, sym, ap, subst}
 use mathlib.Core.Bool.{true, false, not}
 use mathlib.Core.Logic.{_≢_, _↔_, _⊎_, inl, inr, ⊎-elim}
+use mathlib.Core.List.{List}
 use Prim.Native.Nat.{ℕ, suc, _≤_, _<_}
 use native.Mathlib.Decide.{ℕ-discrete}
 use native.Mathlib.Omega.{arith}
@@ -11,12 +12,18 @@ use lib.ListN.{length, getD}
 use Rattle.words.specs.Tests.{either, clash, which, below, and-iff, not-both}
 use Rattle.words.specs.Word.{has}
 use Rattle.trace.specs.Limits.{limit, records}
-use Rattle.desk.specs.Answers.{Said, refused, granted, held, touched, released, Rule}
-use Rattle.desk.specs.Step.{State, Outcome, state, outcome, seatAt, seatSet, setBit, withLock, fitting, beginStep, ruled, about, lockRule, lockStep, holdRule, touchStep, releaseStep, finishStep, seatOf, kind, step}
+use Rattle.desk.specs.Answers.{uncleared, Said, refused, granted, held, touched, released, Rule}
+use Rattle.desk.specs.Step.{State, ClearOutcome, clearing, Outcome, state, outcome, seatAt, grant, setBit, fitting, beginStep, ruled, about, lockRule, lockStep, holdRule, touchStep, releaseStep, finishStep, seatOf, kind, step}
 use Rattle.desk.specs.StepLaws.{about-ways, lock-ways, hold-ways}
 use Rattle.desk.specs.declared.Seat.{Seat}
 use Rattle.desk.specs.declared.Request.{Request}
 use Rattle.desk.specs.declared.Request.the-variants.{Begin, Lock, Touch, Release, Finish}
+
+-- tables of i and j words are unequal, empty or over 4,096
+pub data BadTables (i j : ℕ) : Type 0 where
+  unequal : i ≢ j → BadTables i j
+  empty : i ≡ 0 → BadTables i j
+  too-long : records < i → BadTables i j
 
 -- TOUCH or RELEASE of record a
 pub data Holding : Request → ℕ → Type 0 where
@@ -35,9 +42,7 @@ Begins q = (s : ℕ) × (q ≡ Begin s)
 -- refusal k has this cause, for request q to a desk of n seats
 pub data Cause (n : ℕ) (st : State) (q : Request) : ℕ → Type 0 where
   -- 1: tables unequal, empty or over 4,096
-  unequal : length (st .held) ≢ length (st .released) → Cause n st q 1
-  empty : length (st .held) ≡ 0 → Cause n st q 1
-  too-long : records < length (st .held) → Cause n st q 1
+  bad-tables : BadTables (length (st .held)) (length (st .released)) → Cause n st q 1
   -- 2: seat over 31
   no-seat : n ≤ seatOf q → Cause n st q 2
   -- 3: record not below n
@@ -55,6 +60,30 @@ pub data Cause (n : ℕ) (st : State) (q : Request) : ℕ → Type 0 where
 
 -- ---- laws
 
+-- tables serve exactly if they are not bad
+module _ (i j : ℕ) where
+  good-tables : fitting i j ≡ true → ¬ BadTables i j
+  unfolding fitting
+  good-tables f c =
+      let a = and-iff (eqb i j) _ .0 f in
+      let b = and-iff (not (eqb i 0)) (leb i records) .0 (a .1) in
+      go (eqb-true i j (a .0)) (eqb-false i 0 (not-true _ (b .0))) (leb-true i records (b .1)) c
+    where
+      go : i ≡ j → (i ≡ 0 → ⊥) → i ≤ records → ¬ BadTables i j
+      go e z l (unequal d) = d e
+      go e z l (empty d) = z d
+      go e z l (too-long d) = omega arith
+
+  no-tables : fitting i j ≡ false → BadTables i j
+  unfolding fitting
+  no-tables f = go (which (eqb i j)) (which (eqb i 0)) (which (leb i records))
+    where
+      go : (eqb i j ≡ true) ⊎ (eqb i j ≡ false) → (eqb i 0 ≡ true) ⊎ (eqb i 0 ≡ false) → (leb i records ≡ true) ⊎ (leb i records ≡ false) → BadTables i j
+      go (inr e) z l = unequal (eqb-false i j e)
+      go (inl e) (inl z) l = empty (eqb-true i 0 z)
+      go (inl e) (inr z) (inr l) = too-long (leb-false i records l)
+      go (inl e) (inr z) (inl l) = not-both (rw (e, z, l)) f
+
 module _ (n : ℕ) (st : State) (q : Request) where
   -- no cause below m holds
   Clear : ℕ → Type 0
@@ -62,9 +91,7 @@ module _ (n : ℕ) (st : State) (q : Request) where
 
   -- a refusal's number is 1 to 8
   number-of : {k : ℕ} → Cause n st q k → (0 < k) × (k < 9)
-  number-of (unequal d) = (omega arith, omega arith)
-  number-of (empty d) = (omega arith, omega arith)
-  number-of (too-long d) = (omega arith, omega arith)
+  number-of (bad-tables d) = (omega arith, omega arith)
   number-of (no-seat d) = (omega arith, omega arith)
   number-of (no-record x d) = (omega arith, omega arith)
   number-of (live-seat x d) = (omega arith, omega arith)
@@ -102,29 +129,8 @@ module _ (n : ℕ) (st : State) (q : Request) where
   unfolding Clear
   passing f g = record { right = λ k. (λ e. absurd (g k e), λ y. absurd (f k (number-of (y .0) .1) (y .0))) }
 
-  no-1 : fitting (length (st .held)) (length (st .released)) ≡ true → ¬ Cause n st q 1
-  unfolding fitting
-  no-1 f c =
-      let a = and-iff (eqb (length (st .held)) (length (st .released))) _ .0 f in
-      let b = and-iff (not (eqb (length (st .held)) 0)) (leb (length (st .held)) records) .0 (a .1) in
-      go (eqb-true _ _ (a .0)) (eqb-false _ _ (not-true _ (b .0))) (leb-true _ _ (b .1)) c
-    where
-      go : length (st .held) ≡ length (st .released) → (length (st .held) ≡ 0 → ⊥) → length (st .held) ≤ records → ¬ Cause n st q 1
-      go e z l (unequal d) = d e
-      go e z l (empty d) = z d
-      go e z l (too-long d) = omega arith
-
-  cause-1 : fitting (length (st .held)) (length (st .released)) ≡ false → Cause n st q 1
-  unfolding fitting
-  cause-1 f = go (which (eqb (length (st .held)) (length (st .released)))) (which (eqb (length (st .held)) 0)) (which (leb (length (st .held)) records))
-    where
-      go : (eqb (length (st .held)) (length (st .released)) ≡ true) ⊎ (eqb (length (st .held)) (length (st .released)) ≡ false)
-          → (eqb (length (st .held)) 0 ≡ true) ⊎ (eqb (length (st .held)) 0 ≡ false)
-          → (leb (length (st .held)) records ≡ true) ⊎ (leb (length (st .held)) records ≡ false) → Cause n st q 1
-      go (inr e) z l = unequal (eqb-false _ _ e)
-      go (inl e) (inl z) l = empty (eqb-true _ _ z)
-      go (inl e) (inr z) (inr l) = too-long (leb-false _ _ l)
-      go (inl e) (inr z) (inl l) = not-both (rw (e, z, l)) f
+  no-1 : ¬ BadTables (length (st .held)) (length (st .released)) → ¬ Cause n st q 1
+  no-1 f (bad-tables d) = f d
 
   no-2 : seatOf q < n → ¬ Cause n st q 2
   no-2 l (no-seat d) = omega arith
@@ -228,7 +234,7 @@ module _ (n : ℕ) (st : State) where
       q = Lock s a
 
       o : Outcome
-      o = outcome granted (state (setBit (st .held) s a) (st .released) (seatSet (st .desk) s (withLock (seatAt (st .desk) s) (getD (st .released) a 0))))
+      o = outcome granted (grant st s a)
 
       unheld : {b : ℕ} → ¬ Holding (Lock s a) b
       unheld x = elim x [ ]
@@ -258,7 +264,15 @@ module _ (n : ℕ) (st : State) where
 pub refused-exactly : (n : ℕ) (st : State) (q : Request) (k : ℕ) → (step n st q .says ≡ refused k) ↔ (Cause n st q k × ((j : ℕ) → j < k → ¬ Cause n st q j))
 unfolding step
 refused-exactly n st q =
-    either (Right n st q) (not (fitting (length (st .held)) (length (st .released)))) (λ e. refusing n st q 1 (clear-1 n st q) (cause-1 n st q (not-true _ e))) (λ e.
-    let c2 = clear-on n st q 1 (clear-1 n st q) (no-1 n st q (not-false _ e)) in
+    either (Right n st q) (not (fitting (length (st .held)) (length (st .released)))) (λ e. refusing n st q 1 (clear-1 n st q) (bad-tables (no-tables _ _ (not-true _ e)))) (λ e.
+    let c2 = clear-on n st q 1 (clear-1 n st q) (no-1 n st q (good-tables _ _ (not-false _ e))) in
     either (Right n st q) (leb n (seatOf q)) (λ l. refusing n st q 2 c2 (no-seat (leb-true _ _ l))) (λ l.
     kind-right n st q (clear-on n st q 2 c2 (no-2 n st q (leb-false _ _ l))))) .right
+
+-- a clearing is refused, with number 1, exactly when its tables are unequal, empty or over 4,096
+pub clearing-refused-exactly : (n : ℕ) (h l : List ℕ) (k : ℕ) → (clearing n h l .says ≡ uncleared k) ↔ ((k ≡ 1) × BadTables (length h) (length l))
+unfolding clearing
+clearing-refused-exactly n h l k =
+    either (λ (o : ClearOutcome). (o .says ≡ uncleared k) ↔ ((k ≡ 1) × BadTables (length h) (length l))) (not (fitting (length h) (length l)))
+    (λ e. (λ p. (cc, no-tables _ _ (not-true _ e)), λ x. ap uncleared (sym (x .0))))
+    (λ e. (λ p. absurd (clash (cc)), λ x. absurd (good-tables _ _ (not-false _ e) (x .1))))

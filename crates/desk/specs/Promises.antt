@@ -1,12 +1,13 @@
 -- The desk's promises: each contract allows one result for the same input, and what is said without a change changes nothing.
 use mathlib.Core.Path.{_≡_, refl, sym, ap, ap₂, _∙_}
-use mathlib.Core.Bool.{Bool, true, false, cond, true≢false}
+use mathlib.Core.Bool.{Bool, true, false, not, cond, true≢false}
 use mathlib.Core.List.{List}
 use Prim.Native.Nat.{ℕ}
 use lib.Dec.{eqb}
-use Rattle.words.specs.Tests.{pick, either}
+use lib.ListN.{length}
+use Rattle.words.specs.Tests.{pick, either, clash}
 use Rattle.desk.specs.Answers.{number, Said, started, wait, refused, granted, held, touched, released, finished, said, ClearSaid, cleared, uncleared, clearSaid, Rule, allowed, told}
-use Rattle.desk.specs.Step.{State, Outcome, outcome, after, ClearOutcome, opened, ruled, about, beginStep, lockStep, touchStep, releaseStep, finishStep, kind, step}
+use Rattle.desk.specs.Step.{State, Outcome, outcome, after, ClearOutcome, opened, freeDesk, fitting, clearing, ruled, about, beginStep, lockStep, touchStep, releaseStep, finishStep, kind, step}
 use Rattle.desk.specs.declared.Seat.{Seat}
 use Rattle.desk.specs.declared.Desk.{Desk}
 use Rattle.desk.specs.declared.Reply.{Reply}
@@ -144,3 +145,14 @@ module _ (st : State) where
 pub quiet-keeps : (n : ℕ) (st : State) (q : Request) → quiet (step n st q .says) ≡ true → step n st q .left ≡ st
 unfolding step
 quiet-keeps n st q = keeps-pick st _ (same st) (keeps-pick st _ (same st) (keeps-kind st q)) .keeps
+
+-- a refused clearing leaves both tables; refused or not, the record is free
+pub clearing-keeps : (n : ℕ) (h l : List ℕ) (k : ℕ) → clearing n h l .says ≡ uncleared k → (clearing n h l .left .held ≡ h) × (clearing n h l .left .released ≡ l)
+unfolding clearing
+clearing-keeps n h l k =
+    either (λ (o : ClearOutcome). o .says ≡ uncleared k → (o .left .held ≡ h) × (o .left .released ≡ l)) (not (fitting (length h) (length l)))
+    (λ e p. (refl, refl)) (λ e p. absurd (clash (cc)))
+
+pub clearing-frees : (n : ℕ) (h l : List ℕ) → clearing n h l .left .desk ≡ freeDesk n
+unfolding clearing
+clearing-frees n h l = either (λ (o : ClearOutcome). o .left .desk ≡ freeDesk n) (not (fitting (length h) (length l))) (λ e. refl) (λ e. refl)

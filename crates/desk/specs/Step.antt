@@ -124,10 +124,14 @@ lockRule s h r v =
 unfoldable pub withLock : Seat → ℕ → Seat
 withLock v r = pick (v .locked) v (record { ticket = v .ticket; wake = r; live = v .live; locked = true })
 
+-- a grant of record a to seat s: the held bit is set, and the seat has its lock
+abbrev pub grant : State → ℕ → ℕ → State
+grant st s a =
+    state (setBit (st .held) s a) (st .released)
+    (seatSet (st .desk) s (withLock (seatAt (st .desk) s) (getD (st .released) a 0)))
+
 unfoldable pub lockStep : State → ℕ → ℕ → Outcome
-lockStep st s a =
-    about st s a (lockRule s)
-    (outcome granted (state (setBit (st .held) s a) (st .released) (seatSet (st .desk) s (withLock (seatAt (st .desk) s) (getD (st .released) a 0)))))
+lockStep st s a = about st s a (lockRule s) (outcome granted (grant st s a))
 
 -- TOUCH or RELEASE by seat s of a record with the held word h and the released word r
 unfoldable pub holdRule : ℕ → ℕ → ℕ → Seat → Rule
