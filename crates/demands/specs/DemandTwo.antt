@@ -13,11 +13,11 @@ use Rattle.words.specs.Word.{has}
 use Rattle.words.specs.WordLaws.{within-bits, all-eq}
 use Rattle.trace.specs.declared.Event.{Event}
 use Rattle.trace.specs.declared.Event.the-variants.{Granted}
-use Rattle.trace.specs.History.{History, Some, now, ago}
+use Rattle.trace.specs.History.{History, Some}
 use Rattle.trace.specs.Answers.{event}
 use Rattle.trace.specs.Events.{spell, fair, readAt}
 use Rattle.trace.specs.EventLaws.{event-back, one-spelling}
-use Rattle.trace.specs.Traces.{AllFair, more}
+use Rattle.trace.specs.Traces.{fair-each}
 use Rattle.desk.specs.declared.Request.{Request}
 use Rattle.desk.specs.declared.Request.the-variants.{Lock}
 use Rattle.desk.specs.Limits.{seats}
@@ -131,11 +131,7 @@ module _ (h l : List ℕ) (fits : clearing seats h l .says ≡ cleared) (qs : Li
 
   -- Each traced event reads back as itself, whatever follows it,
   pub traced-back : (e : Event) → Some (λ x. x ≡ e) (here .history) → (rest : List ℕ) → readAt (spell e ++ rest) ≡ event e (length (spell e))
-  traced-back e s rest = event-back e rest (all-fair (good-run seats h l qs fits .fair) s)
-    where
-      all-fair : {k : History} → AllFair k → Some (λ x. x ≡ e) k → fair e ≡ true
-      all-fair (more f a) (now p) = subst (λ x. fair x ≡ true) p f
-      all-fair (more f a) (ago p) = all-fair a p
+  traced-back e s rest = event-back e rest (fair-each (good-run seats h l qs fits .fair) s)
 
 -- and each accepted event has one spelling.
 pub one-spelling-each : (k k′ : List ℕ) {e : Event} {n n′ : ℕ} → Bytes k → Bytes k′ → readAt k ≡ event e n → readAt k′ ≡ event e n′ → (n ≡ n′) × (take n k ≡ take n′ k′)

@@ -7,3 +7,4 @@ pub mod Keeps
 pub mod Runs
 -- The demands
 pub mod DemandTwo
+pub mod DemandThree

@@ -1,9 +1,11 @@
 -- What holds in a lawful history.
 use Prim.Native.Nat.{ℕ}
-use mathlib.Core.Path.{subst}
+use mathlib.Core.Path.{_≡_, refl, subst}
 use mathlib.Core.Logic.{_≢_, inl, inr, ⊎-elim}
 use mathlib.Core.List.{_∷_}
 use Rattle.trace.specs.declared.Event.{Event}
+use Rattle.trace.specs.declared.Event.the-variants.{Started, Granted, Touched, Released, Finished}
+use Rattle.trace.specs.Causes.{ticketOf}
 use Rattle.trace.specs.History.{History, Kind, Starts, Grants, Ends, Some, now, ago, Earlier, closing, closed, Accesses}
 use Rattle.rules.specs.Changes.{Had, Gave, Live}
 use Rattle.rules.specs.Rules.{RuleOne, RuleTwo, Lawful, nothing, and, Step, Allowed, Holds, MayLock}
@@ -68,3 +70,15 @@ latest (and l s) d g f (ago p) (closed y) = closed (latest l d (λ x. g (ago x))
 latest {a} {b} {r} (and l s) d g f (ago p) (closing z q) =
     let m = access-holds {t = a} {r = r} (inl q) s in
     absurd (⊎-elim (λ x. m .unreleased (first-of x)) (λ x. g (first-of x)) (s .one a b r d (m .live) (had-live (and l s) (ago p) f) (now q) (ago p)))
+
+-- whoever has an event has started
+pub event-started : {h : History} {e : Event} → Lawful h → Some (λ x. x ≡ e) h → Some (Starts (ticketOf e)) h
+event-started {e = e} (and {e = d} {h = h} l s) (now p) = go d (s .allowed) p
+  where
+    go : (d : Event) → Allowed h d → d ≡ e → Some (Starts (ticketOf e)) (d ∷ h)
+    go (Started t) a q = now (subst (λ x. Started t ≡ Started (ticketOf x)) q refl)
+    go (Granted t r) a q = ago (subst (λ x. Some (Starts (ticketOf x)) h) q (a .live .started))
+    go (Touched t r) a q = ago (subst (λ x. Some (Starts (ticketOf x)) h) q (a .live .started))
+    go (Released t r) a q = ago (subst (λ x. Some (Starts (ticketOf x)) h) q (a .live .started))
+    go (Finished t) a q = ago (subst (λ x. Some (Starts (ticketOf x)) h) q (a .started))
+event-started (and l s) (ago p) = ago (event-started l p)

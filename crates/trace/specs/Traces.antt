@@ -1,8 +1,8 @@
 -- A trace of whole events, cut at any byte, reads as the events before the cut, then end if the cut is between events, else 20.
-use mathlib.Core.Path.{_≡_, ap, refl, _∙_}
+use mathlib.Core.Path.{_≡_, ap, refl, subst, _∙_}
 use mathlib.Core.Logic.{⊎-elim}
 use Prim.Native.Nat.{ℕ, zero, suc, _+_, _-_, _<_, _≤_}
-use mathlib.Core.List.{List, [], _∷_, _++_}
+use mathlib.Core.List.{List, [], _∷_, _++_, reverseAux}
 use mathlib.Core.Bool.{true}
 use lib.ListN.{length, take, drop}
 use lib.Seq.{take-nil, take-append-le, take-append-add, drop-append-seam}
@@ -11,6 +11,7 @@ use native.Mathlib.Omega.{arith}
 use borrow.Author.Tests.{lt-ltb, le-ltb}
 use Rattle.words.specs.Tests.{pick, below}
 use Rattle.trace.specs.Answers.{ReadingSaid, event, end, no-event}
+use Rattle.trace.specs.History.{Some, now, ago}
 use Rattle.trace.specs.Events.{spell, fair, readAt}
 use Rattle.trace.specs.EventLaws.{event-back, event-cut}
 use Rattle.trace.specs.declared.Event.{Event}
@@ -55,6 +56,15 @@ cutAt zero (e ∷ es) = stop end
 cutAt (suc k) (e ∷ es) = pick (ltb (suc k) (length (spell e))) (stop (no-event 20)) (then e (cutAt (suc k - length (spell e)) es))
 
 -- ---- laws
+
+-- each event of a fair history is fair, and so is the history turned round
+pub fair-each : {e : Event} {h : List Event} → AllFair h → Some (λ x. x ≡ e) h → fair e ≡ true
+fair-each (more f a) (now p) = subst (λ x. fair x ≡ true) p f
+fair-each (more f a) (ago s) = fair-each a s
+
+pub fair-onto : {es h : List Event} → AllFair es → AllFair h → AllFair (reverseAux es h)
+fair-onto none m = m
+fair-onto (more f a) m = fair-onto a (more f m)
 
 all-end : (f : ℕ) → readAll f [] ≡ stop end
 unfolding readAll readAt

@@ -1,0 +1,37 @@
+-- The order call: the refusals in the paper's order, else the table of befores and the list.
+use mathlib.Core.Bool.{Bool, not}
+use mathlib.Core.List.{List}
+use Prim.Native.Nat.{ℕ, _+_, _/_, _%_}
+use lib.Dec.{ltb, eqb}
+use lib.ListN.{length, replicate}
+use Rattle.words.specs.Tests.{pick}
+use Rattle.words.specs.Rows.{words}
+use Rattle.order.specs.Limits.{tickets, tableWords, longest}
+use Rattle.order.specs.Counting.{count}
+use Rattle.order.specs.Listing.{places, complete}
+use Rattle.order.specs.Befores.{touches, someTouch, before}
+use Rattle.order.specs.Answers.{ordered, refused, Call}
+use Rattle.order.specs.Walk.{Walked, whole, faulty, walk}
+
+-- the table: word 8(i-1) + (j-1)/32, bit (j-1) mod 32, says whether i comes before j
+unfoldable pub tableBy : (ℕ → ℕ → Bool) → List ℕ
+tableBy b = words tableWords (λ k. b (k / tickets + 1) (k % tickets + 1))
+
+-- the order of the tickets with m, b i j saying that i comes before j: where not all can be listed 28, and zeros for the list
+unfoldable pub settled : (ℕ → ℕ → Bool) → (ℕ → Bool) → Call
+settled b m =
+    pick (complete tickets b m) (record { says = ordered (count tickets m); table = tableBy b; list = places tickets b m tickets })
+    (record { says = refused 28 0; table = tableBy b; list = replicate tickets 0 })
+
+-- after the walk: a refusal leaves table and list as they are
+abbrev pub orderBy : Walked → List ℕ → List ℕ → Call
+orderBy (whole h) table list = settled (before (touches h)) (someTouch (touches h))
+orderBy (faulty k at) table list = record { says = refused k at; table = table; list = list }
+
+-- the order call: 25 where a length is wrong, 26 where the trace is too long, else by the walk
+unfoldable pub orderOf : List ℕ → List ℕ → List ℕ → Call
+orderOf trace table list =
+    pick (not (eqb (length table) tableWords)) (record { says = refused 25 0; table = table; list = list })
+    (pick (not (eqb (length list) tickets)) (record { says = refused 25 0; table = table; list = list })
+    (pick (ltb longest (length trace)) (record { says = refused 26 0; table = table; list = list })
+    (orderBy (walk trace) table list)))
