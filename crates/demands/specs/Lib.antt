@@ -6,5 +6,7 @@ pub mod Views
 pub mod Keeps
 pub mod Runs
 -- The demands
+pub mod DemandOne
 pub mod DemandTwo
 pub mod DemandThree
+pub mod Cases

@@ -21,14 +21,17 @@ use Rattle.order.specs.Scratch.{hasBefore, hasTicket, readyIn, nextIn, p
 use Rattle.order.proofs.Rows.{same-ticket}
 use Rattle.order.proofs.Ready.{row-all}
 
+-- the next ticket is at most 256
 pub next-le : (befores touching listed : List ℕ) → nextIn befores touching listed ≤ tickets
 unfolding nextIn
 next-le befores touching listed = lowest-le tickets (readyIn befores touching listed)
 
 module _ (befores touching : List ℕ) where
+  -- the first p places
   abbrev P : ℕ → List ℕ
   P p = placesIn befores touching p
 
+  -- the ticket at place p, or 0
   abbrev N : ℕ → ℕ
   N p = next tickets (hasBefore befores) (hasTicket touching) (P p)
 
@@ -67,6 +70,7 @@ module _ (befores touching : List ℕ) where
         go (no e) (inl l) = getD-set-other list p q (N p) 0 e ∙ f .list-says q ∙ place-at p q l ∙ sym (place-at (suc p) q (omega arith))
         go (no e) (inr l) = getD-set-other list p q (N p) 0 e ∙ f .list-says q ∙ place-none p q l ∙ sym (place-none (suc p) q (omega arith))
 
+    -- and its ticket is marked
     more-listed : (i : ℕ) → In tickets i → (N p ≡ 0 → ⊥) → hasTicket (withBit listed (N p - 1)) i ≡ elem i (P (suc p))
     unfolding places
     more-listed i h nz =
@@ -75,6 +79,7 @@ module _ (befores touching : List ℕ) where
         ∙ ap₂ _||_ (f .listed-says i h) (same-ticket i (N p) h (omega arith))
         ∙ sym (elem-snoc i (P p) (N p))
 
+    -- so p + 1 places are filled
     pub filled-more : {t : ℕ} {listed′ : List ℕ} → t ≡ nextIn befores touching listed → (t ≡ 0 → ⊥) → listed′ ≡ withBit listed (t - 1) → p < tickets
         → Filled befores touching listed′ (set list p t) (p + 1)
     filled-more {t} e nz l h =

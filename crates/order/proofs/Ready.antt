@@ -43,15 +43,17 @@ row-all rows t row small = same-test (withinWords 8 rows (8 * t) row) (all ticke
         (ap (bit rows) (sym (at (k + 1)) ∙ ap (λ (x : ℕ). 32 * (8 * t) + x) (sym e)) ∙ p))
 
 module _ (befores touching listed : List ℕ) (t : ℕ) where
-  -- a ticket without a touch is not ready, nor is one that is listed; any other is if its befores lie within what is listed
+  -- a ticket without a touch is not ready
   pub ready-idle : bit touching t ≡ false → false ≡ readyIn befores touching listed (t + 1)
   unfolding readyIn ready
   ready-idle h = rw (ticket-bit touching t ∙ h)
 
+  -- nor is one that is listed
   pub ready-listed : bit listed t ≡ true → false ≡ readyIn befores touching listed (t + 1)
   unfolding readyIn ready
   ready-listed h = rw (ticket-bit listed t ∙ h) (sym (and-false (hasTicket touching (t + 1))))
 
+  -- any other is if its befores lie within what is listed
   pub ready-within : ((i : ℕ) → getD befores i 0 < 2 ^ 32) → bit touching t ≡ true → bit listed t ≡ false
       → withinWords 8 befores (8 * t) listed ≡ readyIn befores touching listed (t + 1)
   unfolding readyIn ready
@@ -63,12 +65,14 @@ module _ (befores touching listed : List ℕ) where
   passed : (t i : ℕ) → ((k : ℕ) → k < t → readyIn befores touching listed (k + 1) ≡ false) → 1 ≤ i → i ≤ t → readyIn befores touching listed i ≡ false
   passed t i none l h = let e : i ≡ (i - 1) + 1 = omega arith in ap (readyIn befores touching listed) e ∙ none (i - 1) (omega arith)
 
+  -- the first that is ready is the next
   pub next-found : (t : ℕ) → t < tickets → ((k : ℕ) → k < t → readyIn befores touching listed (k + 1) ≡ false) → readyIn befores touching listed (t + 1) ≡ true
       → t + 1 ≡ nextIn befores touching listed
   unfolding nextIn
   next-found t l none h =
       sym (lowest-is tickets (readyIn befores touching listed) (t + 1) (record { within = omega arith; is = h; none-below = λ i k q. passed t i none (k .low) (omega arith) }))
 
+  -- where none is there is no next
   pub next-none : (t : ℕ) → tickets ≤ t → ((k : ℕ) → k < t → readyIn befores touching listed (k + 1) ≡ false) → 0 ≡ nextIn befores touching listed
   unfolding nextIn
   next-none t l none = sym (lowest-none tickets (readyIn befores touching listed) (λ i k. passed t i none (k .low) (omega arith)))
@@ -78,6 +82,7 @@ pub count-yes : (t : ℕ) (row : List ℕ) → bit row t ≡ true → count (t +
 unfolding count pick
 count-yes t row h = rw (add-one t) (ap (λ (b : Bool). count t (hasTicket row) + pick b 1 0) (ap (hasTicket row) (sym (add-one t)) ∙ ticket-bit row t ∙ h))
 
+-- and where it has no bit the count stays
 pub count-no : (t : ℕ) (row : List ℕ) → bit row t ≡ false → count (t + 1) (hasTicket row) ≡ count t (hasTicket row)
 unfolding count pick
 count-no t row h = rw (add-one t) (ap (λ (b : Bool). count t (hasTicket row) + pick b 1 0) (ap (hasTicket row) (sym (add-one t)) ∙ ticket-bit row t ∙ h) ∙ omega arith)

@@ -1,6 +1,6 @@
 -- The order call's last step looks at tickets 1 to 256 alone, and so is the same for the rows as for the touches.
-use mathlib.Core.Path.{_≡_, sym, ap, ap₂, _∙_}
-use mathlib.Core.Bool.{Bool, true, false}
+use mathlib.Core.Path.{_≡_, sym, ap, _∙_}
+use mathlib.Core.Bool.{true, false}
 use mathlib.Core.List.{List}
 use Prim.Native.Nat.{ℕ, _+_, _/_, _%_, _^_, _<_}
 use native.Mathlib.Omega.{arith}
@@ -9,10 +9,9 @@ use Rattle.words.specs.Tests.{pick}
 use Rattle.words.specs.Rows.{bit, words, withinWords}
 use Rattle.words.specs.RowLaws.{words-ext}
 use Rattle.order.specs.Limits.{tickets, tableWords}
-use Rattle.order.specs.Answers.{ordered, refused, called}
+use Rattle.order.specs.Answers.{called}
 use Rattle.order.specs.Counting.{count}
 use Rattle.order.specs.CountingLaws.{count-ext}
-use Rattle.order.specs.Listing.{places, complete}
 use Rattle.order.specs.PlaceLaws.{places-ext, complete-ext}
 use Rattle.order.specs.Befores.{Touch, someTouch, before}
 use Rattle.order.specs.Order.{tableBy, settled}
@@ -29,27 +28,32 @@ turned-table befores =
 -- the two ends
 module _ {befores touching listed table list : List ℕ} (is : table ≡ tableBy (hasBefore befores)) (f : Filled befores touching listed list tickets)
     (small : (i : ℕ) → getD touching i 0 < 2 ^ 32) where
-  pub ends-listed : {k : ℕ} → withinWords 8 touching 0 listed ≡ true → k ≡ count tickets (hasTicket touching) → called (Ordered k) table list ≡ settled (hasBefore befores) (hasTicket touching)
+  -- all are listed
+  pub ends-listed : {k : ℕ} → withinWords 8 touching 0 listed ≡ true → k ≡ count tickets (hasTicket touching)
+      → called (Ordered k) table list ≡ settled (hasBefore befores) (hasTicket touching)
   unfolding settled pick
   ends-listed e c = rw (sym (within-complete befores touching f small) ∙ e, is, filled-list befores touching f, c)
 
-  pub ends-stuck : {list′ : List ℕ} → withinWords 8 touching 0 listed ≡ false → list′ ≡ replicate (length list) 0 → called Ring table list′ ≡ settled (hasBefore befores) (hasTicket touching)
+  -- not all are, and the list is cleared
+  pub ends-stuck : {list′ : List ℕ} → withinWords 8 touching 0 listed ≡ false → list′ ≡ replicate (length list) 0
+      → called Ring table list′ ≡ settled (hasBefore befores) (hasTicket touching)
   unfolding settled pick
   ends-stuck e z = rw (sym (within-complete befores touching f small) ∙ e, is, z, f .list-long)
 
 -- it is the same for the rows as for the touches
-pub settled-rows : {ts : List Touch} {touchers befores touching : List ℕ} → Rows ts touchers befores touching
-    → settled (hasBefore befores) (hasTicket touching) ≡ settled (before ts) (someTouch ts)
-unfolding settled tableBy
-settled-rows {ts} {touchers} {befores} {touching} rows =
-    ap₂ (λ (c : Bool) (k : ℕ). pick c (record { says = ordered k; table = tableBy (hasBefore befores); list = places tickets (hasBefore befores) (hasTicket touching) tickets }) (record { says = refused 28 0; table = tableBy (hasBefore befores); list = replicate tickets 0 }))
-    (complete-ext tickets (hasBefore befores) (before ts) (hasTicket touching) (someTouch ts) (rows .befores-say) (rows .touching-say))
-    (count-ext tickets (hasTicket touching) (someTouch ts) (rows .touching-say))
-    ∙ ap₂ (λ (t l : List ℕ). pick (complete tickets (before ts) (someTouch ts)) (record { says = ordered (count tickets (someTouch ts)); table = t; list = l }) (record { says = refused 28 0; table = t; list = replicate tickets 0 }))
-    same-table
-    (places-ext tickets (hasBefore befores) (before ts) (hasTicket touching) (someTouch ts) (rows .befores-say) (rows .touching-say) tickets)
-  where
-    same-table : tableBy (hasBefore befores) ≡ tableBy (before ts)
-    same-table =
-        words-ext tableWords (λ k. hasBefore befores (k / tickets + 1) (k % tickets + 1)) (λ k. before ts (k / tickets + 1) (k % tickets + 1))
-        (λ k l. rows .befores-say (k / tickets + 1) (k % tickets + 1) (omega arith) (omega arith))
+module _ {ts : List Touch} {touchers befores touching : List ℕ} (rows : Rows ts touchers befores touching) where
+  same-table : tableBy (hasBefore befores) ≡ tableBy (before ts)
+  unfolding tableBy
+  same-table =
+      words-ext tableWords (λ k. hasBefore befores (k / tickets + 1) (k % tickets + 1)) (λ k. before ts (k / tickets + 1) (k % tickets + 1))
+      (λ k l. rows .befores-say (k / tickets + 1) (k % tickets + 1) (omega arith) (omega arith))
+
+  pub settled-rows : settled (hasBefore befores) (hasTicket touching) ≡ settled (before ts) (someTouch ts)
+  unfolding settled
+  settled-rows =
+      rw (
+        same-table,
+        count-ext tickets (hasTicket touching) (someTouch ts) (rows .touching-say),
+        complete-ext tickets (hasBefore befores) (before ts) (hasTicket touching) (someTouch ts) (rows .befores-say) (rows .touching-say),
+        places-ext tickets (hasBefore befores) (before ts) (hasTicket touching) (someTouch ts) (rows .befores-say) (rows .touching-say) tickets,
+      )

@@ -52,16 +52,18 @@ module _ {befores : List ℕ} where
           ap₂ _&&_ (le-ltb (turned q) k a) refl ∙ sym (ap₂ _&&_ (lt-ltb (turned q) (k + n) b) (clear (turned q) a b))
       same q (inr a) (inr b) = ap (λ (x : Bool). x && bit befores (turned q)) (le-ltb (turned q) k a ∙ sym (le-ltb (turned q) (k + n) b))
 
-  -- one bit that is clear, and a word of them
-  pub turned-off : {table : List ℕ} {k : ℕ} → bit befores k ≡ false → Turns befores table table k 1
-  turned-off {k = k} e t = turned-clear 1 t (λ q a b. let p : q ≡ k = omega arith in ap (bit befores) p ∙ e)
+  -- one bit that is clear
+  pub turned-off : {table : List ℕ} {k : ℕ} {set : Bool} → set ≡ bit befores k → set ≡ false → Turns befores table table k 1
+  turned-off {k = k} e f t = turned-clear 1 t (λ q a b. let p : q ≡ k = omega arith in ap (bit befores) p ∙ sym e ∙ f)
 
+  -- a word without bits
   pub turned-skip : {table : List ℕ} (w : ℕ) → getD befores w 0 ≡ 0 → Turns befores table table (32 * w) 32
   turned-skip w e t = turned-clear 32 t (λ q a b. zero-word befores w q e (omega arith))
 
   -- one bit that is set
-  pub turned-on : {table table′ : List ℕ} {k : ℕ} → table′ ≡ withBit table (turned k) → bit befores k ≡ true → k < tickets * tickets → Turns befores table table′ k 1
-  turned-on {table} {k = k} is e h t =
+  pub turned-on : {table table′ : List ℕ} {k : ℕ} {set : Bool} → set ≡ bit befores k → set ≡ true → k < tickets * tickets → table′ ≡ withBit table (turned k)
+      → Turns befores table table′ k 1
+  turned-on {table} {k = k} e f h is t =
       rw is
       record {
         long = with-length table (turned k) ∙ t .long;
@@ -76,7 +78,7 @@ module _ {befores : List ℕ} where
       same q l (yes p) w =
           let r : turned q ≡ k = omega arith in
           ap₂ _||_ (ap (λ (x : Bool). x && bit befores (turned q)) (le-ltb (turned q) k (omega arith))) (eq-eqb q (turned k) p)
-          ∙ sym (ap₂ _&&_ (lt-ltb (turned q) (k + 1) (omega arith)) (ap (bit befores) r ∙ e))
+          ∙ sym (ap₂ _&&_ (lt-ltb (turned q) (k + 1) (omega arith)) (ap (bit befores) r ∙ sym e ∙ f))
       same q l (no p) (inl a) =
           ap₂ _||_ (ap (λ (x : Bool). x && bit befores (turned q)) (lt-ltb (turned q) k a)) (ne-eqb q (turned k) p) ∙ or-false (bit befores (turned q))
           ∙ ap (λ (x : Bool). x && bit befores (turned q)) (sym (lt-ltb (turned q) (k + 1) (omega arith)))
@@ -84,10 +86,11 @@ module _ {befores : List ℕ} where
           ap₂ _||_ (ap (λ (x : Bool). x && bit befores (turned q)) (le-ltb (turned q) k a)) (ne-eqb q (turned k) p)
           ∙ ap (λ (x : Bool). x && bit befores (turned q)) (sym (le-ltb (turned q) (k + 1) (omega arith)))
 
-  -- no bit, and one bit after n
+  -- no bit
   pub turns-none : {table : List ℕ} (k : ℕ) → Turns befores table table k 0
   turns-none {table} k t = let e : k + 0 ≡ k = omega arith in rw e t
 
+  -- one bit more after n
   pub turns-more : {table table′ table″ : List ℕ} (k n : ℕ) → Turns befores table table′ k n → Turns befores table′ table″ (k + n) 1 → Turns befores table table″ k (n + 1)
   turns-more k n f g t = let e : k + (n + 1) ≡ k + n + 1 = omega arith in rw e (g (f t))
 

@@ -48,6 +48,7 @@ pub record Walking (trace table₀ list₀ touchers befores touching table list 
   pub list-same : list ≡ list₀
   pub fit : Fit table list
 
+-- before the first event
 pub walking-start : {trace table list touchers befores touching : List ℕ} → Bytes trace → Rows [] touchers befores touching → Fit table list
     → Walking trace table list touchers befores touching table list 0
 unfolding walk touches
@@ -82,29 +83,35 @@ module _ {trace table₀ list₀ touchers befores touching table list : List ℕ
       go End k l = refl
       go (NoEvent f) k l = absurd (⊎-elim (λ q. omega arith) (λ q. omega arith) l)
 
+  -- so the order is settled
   pub walking-end : (a : Answer) {table′ list′ : List ℕ} → OneOf (1 ∷ 2 ∷ []) (tagOf reading-type.the-type got) → OneOf (0 ∷ 1 ∷ []) (tagOf reading-type.the-type got)
       → called a table′ list′ ≡ settled (hasBefore befores) (hasTicket touching) → called a table′ list′ ≡ orderBy (walk trace) table₀ list₀
   walking-end a k l s = s ∙ settled-rows (w .rows) ∙ sym (ap (λ (v : Walked). orderBy v table₀ list₀) (goes (ap readingSaid (at-end k l))))
 
   -- an event reads
   module _ {e : Event} {n : ℕ} (is : got ≡ Found e n) where
+    -- it stands there whole
     stands : Whole (drop at trace) e n
     stands = event-only (drop at trace) (bytes-rest at trace (w .bytes)) (sym (ap readAt (part-rest at trace)) ∙ sym said ∙ ap readingSaid is)
 
+    -- it has a byte, and lies within the trace
     pub event-fits : (0 < n) × (at + n ≤ length trace)
     event-fits = let s = stands .some in let f = stands .fits in let i = w .within in (s, omega (arith, length-drop at trace))
 
-    pub event-near : ticketOf e ≤ tickets → In tickets (ticketOf e) × (recordOf e < records)
-    event-near t = near-event e (stands .proper) t
+    -- with a ticket of at most 256 it may be noted
+    pub event-near : {t : ℕ} → t ≡ ticketOf e → t ≤ tickets → In tickets (ticketOf e) × (recordOf e < records)
+    event-near i t = near-event e (stands .proper) (omega arith)
 
-    pub walking-far : tickets < ticketOf e → called (FarTicket at) table list ≡ orderBy (walk trace) table₀ list₀
+    -- with a ticket over 256 it ends the walk
+    pub walking-far : {t : ℕ} → t ≡ ticketOf e → tickets < t → called (FarTicket at) table list ≡ orderBy (walk trace) table₀ list₀
     unfolding pick
-    walking-far t = rw (goes (ap readingSaid is), lt-ltb tickets (ticketOf e) t, w .table-same, w .list-same)
+    walking-far i t = rw (goes (ap readingSaid is), lt-ltb tickets (ticketOf e) (omega arith), w .table-same, w .list-same)
 
-    pub walking-on : {touchers′ befores′ touching′ : List ℕ} → ticketOf e ≤ tickets → Takes (counted e) touchers befores touching touchers′ befores′ touching′
+    -- with another the walk goes on behind it
+    pub walking-on : {touchers′ befores′ touching′ : List ℕ} {t : ℕ} → t ≡ ticketOf e → t ≤ tickets → Takes (counted e) touchers befores touching touchers′ befores′ touching′
         → Walking trace table₀ list₀ touchers′ befores′ touching′ table list (at + n)
     unfolding touches pick
-    walking-on t k =
+    walking-on i t k =
         let f = event-fits in
         let a = w .within in
         let b = w .enough in
@@ -117,7 +124,7 @@ module _ {trace table₀ list₀ touchers befores touching table list : List ℕ
           rows = k (touches (w .past)) (w .rows);
           same =
               ap (λ (l : List ℕ). walkFrom (w .fuel - 1) l (at + n) (e ∷ w .past)) (sym (drop-drop n at trace))
-              ∙ sym (rw (le-ltb tickets (ticketOf e) t) at (goes (ap readingSaid is)));
+              ∙ sym (rw (le-ltb tickets (ticketOf e) (omega arith)) at (goes (ap readingSaid is)));
           table-same = w .table-same;
           list-same = w .list-same;
           fit = w .fit;

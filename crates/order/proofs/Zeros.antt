@@ -13,5 +13,6 @@ map-zero : (l : List ℕ) → map zero l ≡ replicate (length l) 0
 map-zero [] = refl
 map-zero (x ∷ l) = ap (λ (t : List ℕ). 0 ∷ t) (map-zero l)
 
+-- all passed: the list is all zeros
 pub pass-zeros : {l₀ l : List ℕ} {n : ℕ} → Passing zero l₀ l n → length l ≤ n → l ≡ replicate (length l₀) 0
 pass-zeros {l₀} p h = pass-end zero p h ∙ map-zero l₀

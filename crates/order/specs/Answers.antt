@@ -10,6 +10,7 @@ pub data OrderSaid : Type 0 where
   ordered : ℕ → OrderSaid
   refused : ℕ → ℕ → OrderSaid
 
+-- the paper's number and values for each of the answer's cases
 abbrev pub orderSaid : Answer → OrderSaid
 orderSaid (Ordered count) = ordered count
 orderSaid WrongLength = refused 25 0

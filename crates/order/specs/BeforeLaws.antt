@@ -24,6 +24,7 @@ pub data Seen : Event → Type 0 where
   counts : (t r : ℕ) → Seen (Touched t r)
   other : {e : Event} → ((ts : List Touch) → counted e ts ≡ ts) → ((t r : ℕ) → Touches t r e → ⊥) → Seen e
 
+-- every event is one of these
 pub seen : (e : Event) → Seen e
 seen (Started t) = other (λ ts. refl) (λ i r y. let z : Started t ≡ Touched i r = y in clash (cc))
 seen (Granted t q) = other (λ ts. refl) (λ i r y. let z : Granted t q ≡ Touched i r = y in clash (cc))
@@ -93,9 +94,10 @@ before-iff (e ∷ h) i j = go e (seen e) (before-iff h i j)
       λ s. rw (same (touches h)) (⊎-elim (λ y. ih .1 y) (λ x. absurd (not j (x .1 .0) (x .1 .1))) (before-cons .0 s)),
     )
 
--- what comes before something has a touch, and so has what it comes before
+-- what comes before something has a touch
 pub before-src : {h : History} (i j : ℕ) → Before Touches h i j → HasTouch h i
 before-src i j y = record { on = y .on; some = first-of (y .earlier) }
 
+-- and so has what it comes before
 pub before-dst : {h : History} (i j : ℕ) → Before Touches h i j → HasTouch h j
 before-dst i j y = record { on = y .on; some = second-of (y .earlier) }

@@ -46,7 +46,8 @@ walk-begins {trace} {es} {rest} b n =
     rw (b .spelt) (walk-over es rest (suc (length (spellAll es ++ rest))) 0 [] (b .near) (omega arith) (let e : 0 + length (spellAll es) ≡ length (spellAll es) = omega arith in rw e n))
 
 -- what a walk is refused for
-pub walk-cause : {trace : List ℕ} (table list : List ℕ) {k at : ℕ} → Bytes trace → Fit table list → length trace ≤ longest → walk trace ≡ faulty k at → OrderCause trace table list k at × (k ≤ 27)
+pub walk-cause : {trace : List ℕ} (table list : List ℕ) {k at : ℕ} → Bytes trace → Fit table list → length trace ≤ longest → walk trace ≡ faulty k at
+    → OrderCause trace table list k at × (k ≤ 27)
 walk-cause {trace} table list {k} {at} by f l e = let s = walk-faulty by e in go (s .spelt) (s .near) (s .there) (s .ends) refl
   where
     go : {o : ℕ} {es : List Event} {rest : List ℕ} {h : History} {w : Walked} → trace ≡ spellAll es ++ rest → Near es → o ≡ 0 + length (spellAll es)

@@ -45,7 +45,8 @@ pub data OrderCause (trace table list : List ℕ) : ℕ → ℕ → Type 0 where
   unread : {es : List Event} {rest : List ℕ} {k : ℕ} → Fit table list → length trace ≤ longest → Begins trace es rest → ReadCause k rest
       → OrderCause trace table list k (length (spellAll es))
   -- 27: the earliest faulty event reads, and its ticket is over 256
-  far-ticket : {es : List Event} {rest : List ℕ} {e : Event} {n : ℕ} → Fit table list → length trace ≤ longest → Begins trace es rest → readAt rest ≡ event e n → tickets < ticketOf e
+  far-ticket : {es : List Event} {rest : List ℕ} {e : Event} {n : ℕ} → Fit table list → length trace ≤ longest → Begins trace es rest
+      → readAt rest ≡ event e n → tickets < ticketOf e
       → OrderCause trace table list 27 (length (spellAll es))
   -- 28: no event is faulty, and the befores close a ring
   ring : {es : List Event} → Fit table list → length trace ≤ longest → Begins trace es [] → Ring (Before Touches (reverse es))

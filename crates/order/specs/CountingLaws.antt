@@ -38,6 +38,7 @@ all-fails (suc n) f h = go (all-fails n f) (which (f (suc n)))
     go ih (inr p) = (suc n, omega arith, p)
     go ih (inl p) = wider (ih (⊎-elim (λ q. not-both (and-iff (all n f) (f (suc n)) .1 (q, p)) h) (λ q. q) (which (all n f))))
 
+-- `all` looks at 1 to n alone
 pub all-ext : (n : ℕ) (f g : ℕ → Bool) → ((i : ℕ) → In n i → f i ≡ g i) → all n f ≡ all n g
 unfolding all
 all-ext zero f g h = refl
@@ -45,17 +46,20 @@ all-ext (suc n) f g h = ap₂ _&&_ (all-ext n f g (λ i k. h i (omega arith))) (
 
 -- ---- how many
 
+-- at most n are counted
 pub count-le : (n : ℕ) (f : ℕ → Bool) → count n f ≤ n
 unfolding count
 count-le zero f = omega arith
 count-le (suc n) f = let ih = count-le n f in either (λ (x : ℕ). count n f + x ≤ suc n) (f (suc n)) (λ e. omega arith) (λ e. omega arith)
 
+-- `count` looks at 1 to n alone
 pub count-ext : (n : ℕ) (f g : ℕ → Bool) → ((i : ℕ) → In n i → f i ≡ g i) → count n f ≡ count n g
 unfolding count
 count-ext zero f g h = refl
 count-ext (suc n) f g h =
     ap₂ (λ (c : ℕ) (b : Bool). c + pick b 1 0) (count-ext n f g (λ i k. h i (omega arith))) (h (suc n) (omega arith))
 
+-- none is counted where none has it
 pub count-none : (n : ℕ) → count n (λ i. false) ≡ 0
 unfolding count pick
 count-none zero = refl
@@ -80,6 +84,7 @@ count-more (suc n) f g x k fx gx h = go (λ l. count-more n f g x l fx gx (λ i 
 
 -- ---- the lowest
 
+-- `lowest` looks at 1 to n alone
 pub lowest-ext : (n : ℕ) (f g : ℕ → Bool) → ((i : ℕ) → In n i → f i ≡ g i) → lowest n f ≡ lowest n g
 unfolding lowest
 lowest-ext zero f g h = refl
@@ -128,6 +133,7 @@ pub lowest-cases : (n : ℕ) (f : ℕ → Bool) → ((lowest n f ≡ 0) × ((i :
 lowest-cases n f =
     ⊎-elim (λ h. inl (lowest-none n f h, h)) (λ w. inr (rw (lowest-is n f (w .0) (w .1)) (w .1))) (find n f)
 
+-- the lowest is at most n
 pub lowest-le : (n : ℕ) (f : ℕ → Bool) → lowest n f ≤ n
 lowest-le n f = ⊎-elim (λ w. let z = w .0 in omega arith) (λ w. w .within .high) (lowest-cases n f)
 

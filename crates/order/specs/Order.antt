@@ -6,6 +6,7 @@ use lib.Dec.{ltb, eqb}
 use lib.ListN.{length, replicate}
 use Rattle.words.specs.Tests.{pick}
 use Rattle.words.specs.Rows.{words}
+use Rattle.trace.specs.History.{History}
 use Rattle.order.specs.Limits.{tickets, tableWords, longest}
 use Rattle.order.specs.Counting.{count}
 use Rattle.order.specs.Listing.{places, complete}
@@ -22,6 +23,22 @@ unfoldable pub settled : (ℕ → ℕ → Bool) → (ℕ → Bool) → Call
 settled b m =
     pick (complete tickets b m) (record { says = ordered (count tickets m); table = tableBy b; list = places tickets b m tickets })
     (record { says = refused 28 0; table = tableBy b; list = replicate tickets 0 })
+
+-- all tickets of a history with a touch can be listed
+abbrev pub allListed : History → Bool
+allListed h = complete tickets (before (touches h)) (someTouch (touches h))
+
+-- how many tickets of a history have a touch
+abbrev pub countOf : History → ℕ
+countOf h = count tickets (someTouch (touches h))
+
+-- a history's table
+abbrev pub tableOf : History → List ℕ
+tableOf h = tableBy (before (touches h))
+
+-- a history's list, where all are listed
+abbrev pub listOf : History → List ℕ
+listOf h = places tickets (before (touches h)) (someTouch (touches h)) tickets
 
 -- after the walk: a refusal leaves table and list as they are
 abbrev pub orderBy : Walked → List ℕ → List ℕ → Call

@@ -18,7 +18,7 @@ use Rattle.order.specs.Counting.{In, count}
 use Rattle.order.specs.Listing.{places, complete}
 use Rattle.order.specs.Befores.{touches, someTouch, before}
 use Rattle.order.specs.Walk.{Walked, whole, faulty, walk}
-use Rattle.order.specs.Order.{tableBy, settled, orderBy, orderOf}
+use Rattle.order.specs.Order.{tableBy, settled, allListed, countOf, tableOf, listOf, orderBy, orderOf}
 use Rattle.order.specs.Causes.{Fit, Accepted}
 
 -- a refusal that leaves table and list as they were
@@ -26,6 +26,7 @@ abbrev pub refusal : ℕ → ℕ → List ℕ → List ℕ → Call
 refusal k at table list = record { says = refused k at; table = table; list = list }
 
 module _ (trace : List ℕ) {table list : List ℕ} where
+  -- 25: a length is wrong
   pub order-wrong : ¬ Fit table list → orderOf trace table list ≡ refusal 25 0 table list
   unfolding orderOf pick
   order-wrong n = go (ℕ-discrete (length table) tableWords) (ℕ-discrete (length list) tickets)
@@ -35,10 +36,12 @@ module _ (trace : List ℕ) {table list : List ℕ} where
       go (yes p) (no q) = rw (eq-eqb (length table) tableWords p, ne-eqb (length list) tickets q)
       go (yes p) (yes q) = absurd (n (record { table-long = p; list-long = q }))
 
+  -- 26: the trace is too long
   pub order-long : Fit table list → longest < length trace → orderOf trace table list ≡ refusal 26 0 table list
   unfolding orderOf pick
   order-long f l = rw (eq-eqb (length table) tableWords (f .table-long), eq-eqb (length list) tickets (f .list-long), lt-ltb longest (length trace) l)
 
+  -- else the walk decides
   pub order-walks : Fit table list → length trace ≤ longest → orderOf trace table list ≡ orderBy (walk trace) table list
   unfolding orderOf pick
   order-walks f l = rw (eq-eqb (length table) tableWords (f .table-long), eq-eqb (length list) tickets (f .list-long), le-ltb longest (length trace) l)
@@ -48,15 +51,10 @@ pub data Went (trace table list : List ℕ) : Call → Type 0 where
   wrong : ¬ Fit table list → Went trace table list (refusal 25 0 table list)
   long : Fit table list → longest < length trace → Went trace table list (refusal 26 0 table list)
   stopped : {k at : ℕ} → Fit table list → length trace ≤ longest → walk trace ≡ faulty k at → Went trace table list (refusal k at table list)
-  ringed : {h : History} → Accepted trace table list h → complete tickets (before (touches h)) (someTouch (touches h)) ≡ false
-      → Went trace table list (record { says = refused 28 0; table = tableBy (before (touches h)); list = replicate tickets 0 })
-  listed : {h : History} → Accepted trace table list h → complete tickets (before (touches h)) (someTouch (touches h)) ≡ true
-      → Went trace table list
-      (record {
-        says = ordered (count tickets (someTouch (touches h)));
-        table = tableBy (before (touches h));
-        list = places tickets (before (touches h)) (someTouch (touches h)) tickets;
-      })
+  ringed : {h : History} → Accepted trace table list h → allListed h ≡ false
+      → Went trace table list (record { says = refused 28 0; table = tableOf h; list = replicate tickets 0 })
+  listed : {h : History} → Accepted trace table list h → allListed h ≡ true
+      → Went trace table list (record { says = ordered (countOf h); table = tableOf h; list = listOf h })
 
 -- a call that is accepted is settled
 pub order-settles : {trace table list : List ℕ} {h : History} → Accepted trace table list h → orderOf trace table list ≡ settled (before (touches h)) (someTouch (touches h))
@@ -75,21 +73,23 @@ table-bit b i j hi hj =
     words-has tableWords (λ k. b (k / tickets + 1) (k % tickets + 1)) (8 * (i - 1) + (j - 1) / 32) ((j - 1) % 32) (omega arith) (omega arith)
     ∙ ap₂ b (let e : k / tickets + 1 ≡ i = omega arith in e) (let e : k % tickets + 1 ≡ j = omega arith in e)
 
--- listed, or stuck
+-- listed
 pub settled-all : (b : ℕ → ℕ → Bool) (m : ℕ → Bool) → complete tickets b m ≡ true
     → settled b m ≡ record { says = ordered (count tickets m); table = tableBy b; list = places tickets b m tickets }
 unfolding settled pick
 settled-all b m e = rw e
 
+-- stuck
 pub settled-ring : (b : ℕ → ℕ → Bool) (m : ℕ → Bool) → complete tickets b m ≡ false
     → settled b m ≡ record { says = refused 28 0; table = tableBy b; list = replicate tickets 0 }
 unfolding settled pick
 settled-ring b m e = rw e
 
+-- so it is listed or has a ring
 pub settles : {trace table list : List ℕ} {h : History} → Accepted trace table list h → Went trace table list (orderOf trace table list)
 settles {h = h} a =
     ⊎-elim (λ e. rw (order-settles a, settled-all (before (touches h)) (someTouch (touches h)) e) (listed a e)) (λ e. rw (order-settles a, settled-ring (before (touches h)) (someTouch (touches h)) e) (ringed a e))
-    (which (complete tickets (before (touches h)) (someTouch (touches h))))
+    (which (allListed h))
 
 -- every call comes to one of these ends
 pub went : (trace table list : List ℕ) → Went trace table list (orderOf trace table list)

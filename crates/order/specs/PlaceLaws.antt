@@ -16,6 +16,7 @@ use Rattle.order.specs.Counting.{In, Found, all, count, those}
 use Rattle.order.specs.CountingLaws.{all-at, all-fails, all-ext, count-le, count-ext, count-more, count-none, all-from, lowest-ext, lowest-cases, those-have, those-all}
 use Rattle.order.specs.Listing.{Stands, May, Lists, elem, ready, next, places, complete}
 
+-- what stands in a list with one more at its end
 pub elem-snoc : (x : ℕ) (l : List ℕ) (y : ℕ) → elem x (l ++ (y ∷ [])) ≡ (elem x l || eqb y x)
 unfolding elem
 elem-snoc x [] y = or-false (eqb y x)
@@ -28,6 +29,7 @@ imp-fails false b h = not-both refl h
 
 -- the places look at 1 to n alone
 module _ (n : ℕ) (b b' : ℕ → ℕ → Bool) (m m' : ℕ → Bool) (hb : (i j : ℕ) → In n i → In n j → b i j ≡ b' i j) (hm : (i : ℕ) → In n i → m i ≡ m' i) where
+  -- the places are the same for the same tests
   pub places-ext : (k : ℕ) → places n b m k ≡ places n b' m' k
   unfolding places next ready
   places-ext zero = refl
@@ -40,6 +42,7 @@ module _ (n : ℕ) (b b' : ℕ → ℕ → Bool) (m m' : ℕ → Bool) (hb : (i 
       (all-ext n (λ i. not (b i j) || elem i (places n b' m' k)) (λ i. not (b' i j) || elem i (places n b' m' k))
       (λ i p. ap (λ (x : Bool). not x || elem i (places n b' m' k)) (hb i j p q)))))
 
+  -- and so is whether all are listed
   pub complete-ext : complete n b m ≡ complete n b' m'
   unfolding complete
   complete-ext =
@@ -67,12 +70,15 @@ module _ (n : ℕ) (b : ℕ → ℕ → Bool) (m : ℕ → Bool) where
       let q = and-iff (not (l j)) _ .0 (p .1) in
       record { listed = p .0; new = not-true (l j) (q .0); befores = λ i k. imp-iff (b i j) (l i) .0 (all-at n (λ i. not (b i j) || l i) (q .1) i k) }
 
+  -- the first k places
   abbrev P : ℕ → List ℕ
   P k = places n b m k
 
+  -- the ticket at place k, or 0
   abbrev N : ℕ → ℕ
   N k = next n b m (P k)
 
+  -- i stands in the first k places
   abbrev Listed : ℕ → ℕ → Bool
   Listed k i = elem i (P k)
 
@@ -135,9 +141,11 @@ module _ (n : ℕ) (b : ℕ → ℕ → Bool) (m : ℕ → Bool) where
       (ready-ext (Listed (suc k)) (Listed k) (λ i h. listed-same k i (omega arith)))
       ∙ z
 
+  -- so every later place is 0
   pub still : (k q : ℕ) → N k ≡ 0 → k ≤ q → N q ≡ 0
   still k q z l = le-ind (λ (x : ℕ). N x ≡ 0) z (λ x h y. stays x y) q l
 
+  -- and the same are listed
   pub still-listed : (k q : ℕ) → N k ≡ 0 → k ≤ q → (i : ℕ) → In n i → Listed q i ≡ Listed k i
   still-listed k q z l i h =
       le-ind (λ (x : ℕ). Listed x i ≡ Listed k i) refl (λ x o y. let e = still k x z o in listed-same x i (omega arith) ∙ y) q l
@@ -189,17 +197,20 @@ module _ (n : ℕ) (b : ℕ → ℕ → Bool) (m : ℕ → Bool) where
 
   -- ---- the places as a list
 
+  -- k places are a list of k
   pub places-length : (k : ℕ) → length (P k) ≡ k
   unfolding places
   places-length zero = refl
   places-length (suc k) = omega (arith, length-append (P k) (N k ∷ []), places-length k)
 
+  -- the first places are the first of more
   places-take : (p k : ℕ) → p ≤ k → take p (P k) ≡ P p
   unfolding places
   places-take p k l =
       le-ind (λ (x : ℕ). take p (P x) ≡ P p) (take-all p (P p) (omega (arith, places-length p)))
       (λ x h y. take-append-le p (P x) (N x ∷ []) (omega (arith, places-length x)) ∙ y) k l
 
+  -- place p of more
   pub places-at : (p k : ℕ) → p < k → getD (P k) p 0 ≡ N p
   unfolding places
   places-at p k l =

@@ -38,7 +38,8 @@ pub answer-once : (a b : Answer) → orderSaid a ≡ orderSaid b → a ≡ b
 answer-once a b e = sym (answer-said a) ∙ ap answer e ∙ answer-said b
 
 -- `order_of`: one answer, one table and one list after it, for a trace, a table and a list, in refusals too
-pub one-order : (r r′ : Answer) (table′ table″ list′ list″ trace table list : List ℕ) → called r table′ list′ ≡ orderOf trace table list → called r′ table″ list″ ≡ orderOf trace table list
+pub one-order : (r r′ : Answer) (table′ table″ list′ list″ trace table list : List ℕ)
+    → called r table′ list′ ≡ orderOf trace table list → called r′ table″ list″ ≡ orderOf trace table list
     → (r ≡ r′) × (table′ ≡ table″) × (list′ ≡ list″)
 one-order r r′ table′ table″ list′ list″ trace table list p q =
     let same : called r table′ list′ ≡ called r′ table″ list″ = p ∙ sym q in

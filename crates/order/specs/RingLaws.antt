@@ -6,12 +6,12 @@ use mathlib.Core.List.{List}
 use Rattle.words.specs.Chains.{Ring}
 use Rattle.trace.specs.History.{History, Touches, Before}
 use Rattle.order.specs.Limits.{tickets}
-use Rattle.order.specs.Counting.{count}
-use Rattle.order.specs.Listing.{Lists, places, complete}
+use Rattle.order.specs.Listing.{Lists}
 use Rattle.order.specs.PlaceLaws.{ring-stuck, stuck-ring, places-list}
 use Rattle.order.specs.Befores.{HasTouch, touches, someTouch, before}
 use Rattle.order.specs.BeforeLaws.{before-iff, some-touch-iff, before-src, before-dst}
 use Rattle.order.specs.WalkLaws.{near-touch}
+use Rattle.order.specs.Order.{allListed, countOf, listOf}
 use Rattle.order.specs.Causes.{Near}
 
 -- the list that 01 describes: K tickets, those with a touch, at each place the lowest unlisted one all of whose befores are listed, and zeros after
@@ -20,12 +20,14 @@ OrderList h K xs = Lists tickets (Before Touches h) (HasTouch h) K xs
 
 module _ {h : History} (n : Near h) where
   -- all are listed exactly if there is no ring
-  pub no-ring : complete tickets (before (touches h)) (someTouch (touches h)) ≡ true → ¬ Ring (Before Touches h)
+  pub no-ring : allListed h ≡ true → ¬ Ring (Before Touches h)
   no-ring c r = ring-stuck tickets (before (touches h)) (someTouch (touches h)) (before-iff h) (some-touch-iff h) before-src before-dst (near-touch n) r c
 
-  pub a-ring : complete tickets (before (touches h)) (someTouch (touches h)) ≡ false → Ring (Before Touches h)
+  -- where not all are listed there is one
+  pub a-ring : allListed h ≡ false → Ring (Before Touches h)
   a-ring = stuck-ring tickets (before (touches h)) (someTouch (touches h)) (before-iff h) (some-touch-iff h) before-src before-dst (near-touch n)
 
-  pub the-list : complete tickets (before (touches h)) (someTouch (touches h)) ≡ true
-      → OrderList h (count tickets (someTouch (touches h))) (places tickets (before (touches h)) (someTouch (touches h)) tickets)
+  -- where all are the places are the list
+  pub the-list : allListed h ≡ true
+      → OrderList h (countOf h) (listOf h)
   the-list = places-list tickets (before (touches h)) (someTouch (touches h)) (before-iff h) (some-touch-iff h) before-src before-dst (near-touch n)

@@ -44,10 +44,11 @@ Takes more touchers befores touching touchers′ befores′ touching′ =
 
 -- ---- the list
 
--- ticket i may be listed next, and the ticket to list next or 0, by the rows of befores, of tickets with a touch and of listed tickets
+-- ticket i may be listed next, by the rows of befores, of tickets with a touch and of listed tickets
 unfoldable pub readyIn : List ℕ → List ℕ → List ℕ → ℕ → Bool
 readyIn befores touching listed = ready tickets (hasBefore befores) (hasTicket touching) (hasTicket listed)
 
+-- the ticket to list next by these rows, or 0
 unfoldable pub nextIn : List ℕ → List ℕ → List ℕ → ℕ
 nextIn befores touching listed = lowest tickets (readyIn befores touching listed)
 

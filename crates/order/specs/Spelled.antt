@@ -56,6 +56,7 @@ event-bytes (Touched t r) f = two-bytes 3 t r (omega arith) f
 event-bytes (Released t r) f = two-bytes 4 t r (omega arith) f
 event-bytes (Finished t) f = one-bytes 5 t (omega arith) f
 
+-- the bytes of a trace of near events
 pub spelled-bytes : {es : List Event} → Near es → Bytes (spellAll es)
 spelled-bytes none = no-bytes
 spelled-bytes (more {e} {es} f t n) = bytes-join (spell e) (spellAll es) (event-bytes e f) (spelled-bytes n)

@@ -1,9 +1,9 @@
 -- What the order call does, in the paper's words, of any trace of bytes.
-use Prim.Native.Nat.{ℕ, _+_, _-_, _*_, _/_, _%_, _<_, _≤_}
-use mathlib.Core.Path.{_≡_, refl, ap, subst, subst₂, _∙_}
+use Prim.Native.Nat.{ℕ, suc, _+_, _-_, _*_, _/_, _%_, _<_, _≤_}
+use mathlib.Core.Path.{_≡_, refl, sym, ap, subst, subst₂, _∙_}
 use mathlib.Core.Bool.{Bool, true}
 use mathlib.Core.Logic.{_≢_, _↔_, ⊎-elim}
-use mathlib.Core.List.{List, reverse, List·Memᴰ}
+use mathlib.Core.List.{List, [], reverse, List·Memᴰ, append-nil}
 use native.Mathlib.Omega.{arith}
 use lib.ListN.{length, getD, replicate}
 use Rattle.words.specs.Tests.{clash, which, same-test}
@@ -20,13 +20,12 @@ use Rattle.order.specs.Limits.{tickets, longest}
 use Rattle.order.specs.Answers.{ordered, refused, Call}
 use Rattle.order.specs.Counting.{In, count}
 use Rattle.order.specs.CountingLaws.{count-ext}
-use Rattle.order.specs.Listing.{places, complete}
 use Rattle.order.specs.ListingLaws.{once, forward, list-no-ring, one-list}
 use Rattle.order.specs.Befores.{HasTouch, touches, someTouch, before}
 use Rattle.order.specs.BeforeLaws.{before-iff, some-touch-iff, before-src}
-use Rattle.order.specs.Walk.{whole, walk}
-use Rattle.order.specs.WalkLaws.{Ends, done, far, walk-whole, walk-all, near-each, near-onto}
-use Rattle.order.specs.Order.{orderOf}
+use Rattle.order.specs.Walk.{Walked, whole, walkFrom, walk}
+use Rattle.order.specs.WalkLaws.{Ends, done, far, Walks, walks, walk-over, walk-whole, near-each, near-onto}
+use Rattle.order.specs.Order.{allListed, countOf, listOf, orderOf}
 use Rattle.order.specs.Causes.{Near, none, Fit, Accepted, OrderCause, wrong-length, too-long, unread, far-ticket, ring}
 use Rattle.order.specs.Spelled.{spelled-bytes}
 use Rattle.order.specs.CauseLaws.{begins-bytes, walk-begins, walk-cause}
@@ -37,7 +36,18 @@ use Rattle.order.specs.OrderLaws.{order-wrong, order-long, order-walks, 
 
 -- the walk over spelled events, oldest first, is whole, and its history has them newest first
 pub walk-spelled : {es : List Event} → Near es → walk (spellAll es) ≡ whole (reverse es)
-walk-spelled n = walk-all n
+walk-spelled {es} n = walk-begins (record { spelt = sym (append-nil (spellAll es)); near = n }) (done refl)
+
+-- the walk never runs out of fuel: with more than a reading for each byte it is the same
+pub fuel-enough : (fuel : ℕ) (trace : List ℕ) → Bytes trace → length trace < fuel → walkFrom fuel trace 0 [] ≡ walk trace
+unfolding walk
+fuel-enough fuel trace by lt = go (walks (suc (length trace)) trace 0 [] by (omega arith))
+  where
+    go : {w : Walked} → Walks 0 [] trace w → walkFrom fuel trace 0 [] ≡ w
+    go s =
+        let p : s .offset ≡ 0 + length (spellAll (s .events)) = s .there in
+        let e = s .spelt in
+        ap (λ (l : List ℕ). walkFrom fuel l 0 []) e ∙ walk-over (s .events) (s .rest) fuel 0 [] (s .near) (omega (arith, ap length e)) (rw p at (s .ends))
 
 -- every event of a history that a walk gives is fair, and its ticket is at most 256
 pub walk-near : (trace : List ℕ) {h : History} → Bytes trace → walk trace ≡ whole h → Near h
@@ -49,7 +59,8 @@ walk-ranges trace by e = near-each (walk-near trace by e)
 
 -- ---- the table
 
--- word 8(i-1) + (j-1)/32, whole part, bit (j-1) mod 32, of the table is set exactly if i comes before j
+-- word 8(i-1) + (j-1)/32, whole part, bit (j-1) mod 32, of the table is set exactly if i comes before j,
+-- where the call is accepted, as it is where it orders (`listed-order`) or refuses with 28 (`ring-exactly`)
 pub table-pairs : {trace table list : List ℕ} {h : History} → Accepted trace table list h → (i j : ℕ) → In tickets i → In tickets j
     → (has (getD (orderOf trace table list .table) (8 * (i - 1) + (j - 1) / 32) 0) ((j - 1) % 32) ≡ true) ↔ Before Touches h i j
 table-pairs {h = h} a i j hi hj =
@@ -58,32 +69,26 @@ table-pairs {h = h} a i j hi hj =
 -- ---- the list
 
 module _ (trace table list : List ℕ) (by : Bytes trace) where
+  -- what 28 says
+  at-28 : {c : Call} → Went trace table list c → c .says ≡ refused 28 0 → (h : History) × Accepted trace table list h × Ring (Before Touches h) × (c .list ≡ replicate tickets 0)
+  at-28 (wrong n) e = let q : _≡_ {A = ℕ} 25 28 = cc in absurd (omega arith)
+  at-28 (long f l) e = let q : _≡_ {A = ℕ} 26 28 = cc in absurd (omega arith)
+  at-28 (stopped {k = k} f l w) e = let q : k ≡ 28 = cc in absurd (omega (arith, walk-cause table list by f l w .1))
+  at-28 (ringed {h} a c) e = (h, a, a-ring (walk-near trace by (a .walked)) c, refl)
+  at-28 (listed a c) e = absurd (clash (cc))
+
   -- 28 is given exactly if the call is accepted and the befores close a ring
   pub ring-exactly : (orderOf trace table list .says ≡ refused 28 0) ↔ ((h : History) × Accepted trace table list h × Ring (Before Touches h))
-  ring-exactly = (there (went trace table list), back)
+  ring-exactly = (λ e. let x = at-28 (went trace table list) e in (x .0, x .1, x .2), back)
     where
-      there : {c : Call} → Went trace table list c → c .says ≡ refused 28 0 → (h : History) × Accepted trace table list h × Ring (Before Touches h)
-      there (wrong n) e = let q : _≡_ {A = ℕ} 25 28 = cc in absurd (omega arith)
-      there (long f l) e = let q : _≡_ {A = ℕ} 26 28 = cc in absurd (omega arith)
-      there (stopped {k = k} f l w) e = let q : k ≡ 28 = cc in absurd (omega (arith, walk-cause table list by f l w .1))
-      there (ringed {h} a c) e = (h, a, a-ring (walk-near trace by (a .walked)) c)
-      there (listed a c) e = absurd (clash (cc))
-
       back : (h : History) × Accepted trace table list h × Ring (Before Touches h) → orderOf trace table list .says ≡ refused 28 0
       back (h, a, r) =
           ⊎-elim (λ c. absurd (no-ring (walk-near trace by (a .walked)) c r)) (λ c. rw (order-settles a, settled-ring (before (touches h)) (someTouch (touches h)) c))
-          (which (complete tickets (before (touches h)) (someTouch (touches h))))
+          (which (allListed h))
 
   -- and then the list is all zeros
   pub ring-zeros : orderOf trace table list .says ≡ refused 28 0 → orderOf trace table list .list ≡ replicate tickets 0
-  ring-zeros = go (went trace table list)
-    where
-      go : {c : Call} → Went trace table list c → c .says ≡ refused 28 0 → c .list ≡ replicate tickets 0
-      go (wrong n) e = let q : _≡_ {A = ℕ} 25 28 = cc in absurd (omega arith)
-      go (long f l) e = let q : _≡_ {A = ℕ} 26 28 = cc in absurd (omega arith)
-      go (stopped {k = k} f l w) e = let q : k ≡ 28 = cc in absurd (omega (arith, walk-cause table list by f l w .1))
-      go (ringed a c) e = refl
-      go (listed a c) e = absurd (clash (cc))
+  ring-zeros e = at-28 (went trace table list) e .3
 
   -- every other refusal leaves table and list as they were
   pub unchanged : {k at : ℕ} → orderOf trace table list .says ≡ refused k at → k ≢ 28 → (orderOf trace table list .table ≡ table) × (orderOf trace table list .list ≡ list)
@@ -108,8 +113,8 @@ module _ (trace table list : List ℕ) (by : Bytes trace) where
       go (ringed a c) e = absurd (clash (cc))
       go (listed {h} a c) e =
           let n = walk-near trace by (a .walked) in
-          let q : count tickets (someTouch (touches h)) ≡ K = cc in
-          (h, a, no-ring n c, subst (λ k. OrderList h k (places tickets (before (touches h)) (someTouch (touches h)) tickets)) q (the-list n c))
+          let q : countOf h ≡ K = cc in
+          (h, a, no-ring n c, subst (λ k. OrderList h k (listOf h)) q (the-list n c))
 
   -- where the call is accepted and there is no ring, it gives that order
   pub orders : {h : History} → Accepted trace table list h → ¬ Ring (Before Touches h)
@@ -119,8 +124,8 @@ module _ (trace table list : List ℕ) (by : Bytes trace) where
       ⊎-elim
       (λ c.
       let e = order-settles a ∙ settled-all (before (touches h)) (someTouch (touches h)) c in
-      (count tickets (someTouch (touches h)), ap (λ (c : Call). c .says) e, rw e (the-list n c)))
-      (λ c. absurd (r (a-ring n c))) (which (complete tickets (before (touches h)) (someTouch (touches h))))
+      (countOf h, ap (λ (c : Call). c .says) e, rw e (the-list n c)))
+      (λ c. absurd (r (a-ring n c))) (which (allListed h))
 
   -- a refusal is given exactly when its cause is there
   pub causes : (k at : ℕ) → (orderOf trace table list .says ≡ refused k at) ↔ OrderCause trace table list k at
@@ -164,7 +169,7 @@ K-counts {h} n l b t =
     (λ c.
     one-list l (the-list n c) .0
     ∙ count-ext tickets (someTouch (touches h)) b (λ i k. same-test (someTouch (touches h) i) (b i) (λ e. t i .1 (some-touch-iff h i .0 e)) (λ e. some-touch-iff h i .1 (t i .0 e))))
-    (λ c. absurd (list-no-ring l before-src (a-ring n c))) (which (complete tickets (before (touches h)) (someTouch (touches h))))
+    (λ c. absurd (list-no-ring l before-src (a-ring n c))) (which (allListed h))
 
 -- ---- spelled events
 

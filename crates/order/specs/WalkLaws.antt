@@ -2,7 +2,7 @@
 use Prim.Native.Nat.{ℕ, zero, suc, _+_, _<_, _≤_}
 use mathlib.Core.Path.{_≡_, refl, sym, ap, subst, _∙_}
 use mathlib.Core.Bool.{true}
-use mathlib.Core.List.{List, [], _∷_, _++_, append-assoc, append-nil, reverse, reverseAux, List·Memᴰ, List·Memᴰ·head, List·Memᴰ·tail}
+use mathlib.Core.List.{List, [], _∷_, _++_, append-assoc, reverse, reverseAux, List·Memᴰ, List·Memᴰ·head, List·Memᴰ·tail}
 use native.Mathlib.Omega.{arith}
 use borrow.Author.Tests.{ltb-true, ltb-false, lt-ltb, le-ltb}
 use lib.Dec.{ltb}
@@ -11,12 +11,12 @@ use lib.Seq.{length-take-le, drop-append-seam}
 use Rattle.words.specs.Tests.{pick, either, clash}
 use Rattle.words.specs.Parts.{Bytes, bytes-rest}
 use Rattle.trace.specs.Limits.{records}
-use Rattle.trace.specs.Answers.{ReadingSaid, event, no-event}
+use Rattle.trace.specs.Answers.{ReadingSaid, event, end, no-event}
 use Rattle.trace.specs.Events.{spell, readAt, fair}
-use Rattle.trace.specs.EventLaws.{Whole, EventSeen, whole, nothing, refused, event-seen, event-back, read-end}
+use Rattle.trace.specs.EventLaws.{Whole, event-only, event-back, read-end}
 use Rattle.trace.specs.Causes.{ticketOf, recordOf}
-use Rattle.trace.specs.CauseLaws.{fair-ranged}
-use Rattle.trace.specs.Traces.{spellAll}
+use Rattle.trace.specs.CauseLaws.{read-ended, fair-ranged}
+use Rattle.trace.specs.Traces.{spellAll, AllFair}
 use Rattle.trace.specs.History.{History, Touches, Some, now, ago}
 use Rattle.trace.specs.declared.Event.{Event}
 use Rattle.trace.specs.declared.Event.the-variants.{Started, Granted, Touched, Released, Finished}
@@ -64,19 +64,23 @@ walks-on {l = l} {e = e} {n = n} v t r =
 walks-end : {at : ℕ} {h : History} {l : List ℕ} {w : Walked} → Ends at h l w → Walks at h l w
 walks-end {at} {l = l} n = record { events = []; rest = l; offset = at; spelt = refl; near = none; there = omega arith; ends = n }
 
+-- the walk from an offset on, with fuel for more than every byte
 pub walks : (fuel : ℕ) (l : List ℕ) (at : ℕ) (h : History) → Bytes l → length l < fuel → Walks at h l (walkFrom fuel l at h)
 unfolding walkFrom
 walks zero l at h by lt = absurd (omega arith)
-walks (suc f) l at h by lt = go (event-seen l by) refl (λ n. walks f (drop n l) (at + n))
+walks (suc f) l at h by lt = go (readAt l) refl (λ n. walks f (drop n l) (at + n))
   where
-    go : {r : ReadingSaid} → EventSeen l r → readAt l ≡ r
+    go : (r : ReadingSaid) → readAt l ≡ r
         → ((n : ℕ) (h : History) → Bytes (drop n l) → length (drop n l) < f → Walks (at + n) h (drop n l) (walkFrom f (drop n l) (at + n) h))
         → Walks at h l (walkBy r at h (λ e n. walkFrom f (drop n l) (at + n) (e ∷ h)))
-    go (whole {e} {n} v) q ih =
+    go (event e n) q ih =
+        let v = event-only l by q in
+        let a = v .some in
+        let b = v .fits in
         either (Walks at h l) (ltb tickets (ticketOf e)) (λ t. walks-end (far q (ltb-true tickets (ticketOf e) t)))
-        (λ t. walks-on v (ltb-false tickets (ticketOf e) t) (ih n (e ∷ h) (bytes-rest n l by) (let a = v .some in let b = v .fits in omega (arith, length-drop n l))))
-    go (nothing e) q ih = walks-end (done e)
-    go (refused c) q ih = walks-end (unread q)
+        (λ t. walks-on v (ltb-false tickets (ticketOf e) t) (ih n (e ∷ h) (bytes-rest n l by) (omega (arith, length-drop n l))))
+    go end q ih = walks-end (done (read-ended l by .0 q))
+    go (no-event k) q ih = walks-end (unread q)
 
 -- ---- and each of those is a walk
 
@@ -88,6 +92,7 @@ spell-some (Touched t r) = omega arith
 spell-some (Released t r) = omega arith
 spell-some (Finished t) = omega arith
 
+-- a walk that has come to its end
 walk-end : {at : ℕ} {h : History} {rest : List ℕ} {w : Walked} (f : ℕ) → length rest < f → Ends at h rest w → walkFrom f rest at h ≡ w
 unfolding walkFrom pick
 walk-end zero lt n = absurd (omega arith)
@@ -95,6 +100,7 @@ walk-end {rest = rest} (suc f) lt (done e) = rw (read-end rest (ap length e))
 walk-end (suc f) lt (unread q) = rw q
 walk-end (suc f) lt (far {e} q t) = rw (q, lt-ltb tickets (ticketOf e) t)
 
+-- the walk over near events and what follows them
 pub walk-over : (es : List Event) (rest : List ℕ) (f at : ℕ) (h : History) {w : Walked} → Near es → length (spellAll es ++ rest) < f
     → Ends (at + length (spellAll es)) (reverseAux es h) rest w → walkFrom f (spellAll es ++ rest) at h ≡ w
 unfolding walkFrom pick
@@ -105,22 +111,6 @@ walk-over (e ∷ es) rest (suc f) at h {w} (more a t near) lt n =
     (rw (event-back e (spellAll es ++ rest) a, le-ltb tickets (ticketOf e) t, drop-append-seam)
     (walk-over es rest f (at + length (spell e)) (e ∷ h) near (omega (arith, spell-some e, length-append (spell e ++ spellAll es) rest, length-append (spell e) (spellAll es), length-append (spellAll es) rest))
     (let p : at + length (spell e ++ spellAll es) ≡ at + length (spell e) + length (spellAll es) = omega (arith, length-append (spell e) (spellAll es)) in rw p at n)))
-
--- more fuel makes no difference
-pub fuel-enough : (fuel : ℕ) (trace : List ℕ) → Bytes trace → length trace < fuel → walkFrom fuel trace 0 [] ≡ walk trace
-unfolding walk
-fuel-enough fuel trace by lt = go (walks (suc (length trace)) trace 0 [] by (omega arith))
-  where
-    go : {w : Walked} → Walks 0 [] trace w → walkFrom fuel trace 0 [] ≡ w
-    go s =
-        let p : s .offset ≡ 0 + length (spellAll (s .events)) = s .there in
-        let e = s .spelt in
-        ap (λ (l : List ℕ). walkFrom fuel l 0 []) e ∙ walk-over (s .events) (s .rest) fuel 0 [] (s .near) (omega (arith, ap length e)) (rw p at (s .ends))
-
--- the walk over the events es, spelled, is whole
-pub walk-all : {es : List Event} → Near es → walk (spellAll es) ≡ Walked.whole (reverse es)
-unfolding walk
-walk-all {es} n = rw (append-nil (spellAll es)) at (walk-over es [] (suc (length (spellAll es))) 0 [] n (omega (arith, length-append (spellAll es) [])) (done refl))
 
 -- what a refused walk met
 pub walk-faulty : {trace : List ℕ} {k at : ℕ} → Bytes trace → walk trace ≡ faulty k at → Walks 0 [] trace (faulty k at)
@@ -144,10 +134,17 @@ walk-whole {trace} {h} by e = let s = walks (suc (length trace)) trace 0 [] by (
 pub near-event : (e : Event) → fair e ≡ true → ticketOf e ≤ tickets → In tickets (ticketOf e) × (recordOf e < records)
 near-event e f t = let r = fair-ranged e .0 f in let z = r .some in (record { low = omega arith; high = t }, r .few)
 
+-- so it is with each event of near ones
 pub near-each : {h : History} → Near h → (e : Event) → List·Memᴰ e h → In tickets (ticketOf e) × (recordOf e < records)
 near-each (more {e = d} f t n) e (List·Memᴰ·head p) = rw p (near-event d f t)
 near-each (more f t n) e (List·Memᴰ·tail m) = near-each n e m
 
+-- events that are fair, and whose tickets are at most 256
+pub near-fair : {es : List Event} → AllFair es → ((e : Event) → List·Memᴰ e es → ticketOf e ≤ tickets) → Near es
+near-fair AllFair.none t = none
+near-fair (AllFair.more {e = e} f a) t = more f (t e (List·Memᴰ·head refl)) (near-fair a (λ d m. t d (List·Memᴰ·tail m)))
+
+-- turned round, near events are near
 pub near-onto : {es : List Event} {h : History} → Near es → Near h → Near (reverseAux es h)
 near-onto none m = m
 near-onto (more f t n) m = near-onto n (more f t m)

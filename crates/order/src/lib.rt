@@ -42,6 +42,286 @@ pub enum Answer {
     Ring,
 }
 
+// The order of a trace: the table of befores and the list of tickets, and how many there are, or why there is none.
+pub fn order_of(trace: &[u8], table: &mut [u32], list: &mut [u16]) -> Answer
+    ensures { λ r. ⌜ called r (now (table .exit)) (now (list .exit)) ≡ orderOf (now (trace .entry)) (now (table .entry)) (now (list .entry)) ⌝ }
+{
+    if table.len() != TABLE {
+        return Answer::WrongLength;
+    }
+    if list.len() != TICKETS {
+        return Answer::WrongLength;
+    }
+    if LONGEST < trace.len() {
+        return Answer::TooLong;
+    }
+    let mut touchers = [0u32; TOUCHERS];
+    let mut befores = [0u32; TABLE];
+    let mut touching = [0u32; ROW];
+    walk_trace(
+        trace,
+        &mut touchers,
+        &mut befores,
+        &mut touching,
+        table,
+        list,
+    )
+}
+
+// The trace is walked event by event; at its end the order is settled.
+fn walk_trace(
+    trace: &[u8],
+    touchers: &mut [u32],
+    befores: &mut [u32],
+    touching: &mut [u32],
+    table: &mut [u32],
+    list: &mut [u16],
+) -> Answer
+    requires { ⌜ Rows [] (now touchers) (now befores) (now touching) ⌝ }
+    requires { ⌜ length (now table) ≡ tableWords ⌝ }
+    requires { ⌜ length (now list) ≡ tickets ⌝ }
+    ensures { λ r. ⌜ called r (now (table .exit)) (now (list .exit)) ≡ orderBy (walk (now (trace .entry))) (now (table .entry)) (now (list .entry)) ⌝ }
+{
+    let mut at = 0;
+    loop {
+        let got = trace::read(&trace[at..]);
+        let Reading::Found { event, length } = got else {
+            if let Reading::Unread(fault) = got {
+                return Answer::Unread { fault, at };
+            }
+            return settle(befores, touching, table, list);
+        };
+        if TICKETS < ticket_of(event) as usize {
+            return Answer::FarTicket { at };
+        }
+        note_event(touchers, befores, touching, event);
+        at += length;
+    }
+}
+
+// An event's ticket.
+fn ticket_of(event: Event) -> u32
+    ensures { λ r. ⌜ r ≡ ticketOf event ⌝ }
+{
+    match event {
+        Event::Started { ticket } => ticket,
+        Event::Granted { ticket, .. } => ticket,
+        Event::Touched { ticket, .. } => ticket,
+        Event::Released { ticket, .. } => ticket,
+        Event::Finished { ticket } => ticket,
+    }
+}
+
+// An event is taken in: only a touch counts.
+fn note_event(touchers: &mut [u32], befores: &mut [u32], touching: &mut [u32], event: Event)
+    requires { ⌜ length (now touchers) ≡ touchersLong ⌝ }
+    requires { ⌜ length (now befores) ≡ tableWords ⌝ }
+    requires { ⌜ length (now touching) ≡ 8 ⌝ }
+    requires { ⌜ In tickets (ticketOf event) ⌝ }
+    requires { ⌜ recordOf event < records ⌝ }
+    ensures { λ _. ⌜ Takes (counted event) (now (touchers .entry)) (now (befores .entry)) (now (touching .entry)) (now (touchers .exit)) (now (befores .exit)) (now (touching .exit)) ⌝ }
+{
+    match event {
+        Event::Started { .. } => {}
+        Event::Granted { .. } => {}
+        Event::Touched { ticket, record } => note_touch(
+            touchers,
+            befores,
+            touching,
+            ticket,
+            record,
+        ),
+        Event::Released { .. } => {}
+        Event::Finished { .. } => {}
+    }
+}
+
+// A ticket touches a record: its touchers come before the ticket, and the ticket is one of them.
+fn note_touch(
+    touchers: &mut [u32],
+    befores: &mut [u32],
+    touching: &mut [u32],
+    ticket: u32,
+    record: u32,
+)
+    requires { ⌜ length (now touchers) ≡ touchersLong ⌝ }
+    requires { ⌜ length (now befores) ≡ tableWords ⌝ }
+    requires { ⌜ length (now touching) ≡ 8 ⌝ }
+    requires { ⌜ In tickets ticket ⌝ }
+    requires { ⌜ «record» < records ⌝ }
+    ensures { λ _. ⌜ Takes (λ ts. touch ticket «record» ∷ ts) (now (touchers .entry)) (now (befores .entry)) (now (touching .entry)) (now (touchers .exit)) (now (befores .exit)) (now (touching .exit)) ⌝ }
+{
+    let t = (ticket - 1) as usize;
+    let r = record as usize;
+    or_row(befores, ROW * t, touchers, ROW * r);
+    clear_bit(befores, TICKETS * t + t);
+    set_bit(touchers, TICKETS * r + t);
+    set_bit(touching, t);
+}
+
+// The table and the list, from the rows of befores and of tickets with a touch.
+fn settle(befores: &[u32], touching: &[u32], table: &mut [u32], list: &mut [u16]) -> Answer
+    requires { ⌜ length (now befores) ≡ tableWords ⌝ }
+    requires { ⌜ length (now touching) ≡ 8 ⌝ }
+    requires { ⌜ length (now table) ≡ tableWords ⌝ }
+    requires { ⌜ length (now list) ≡ tickets ⌝ }
+    ensures { λ r. ⌜ called r (now (table .exit)) (now (list .exit)) ≡ settled (hasBefore (now (befores .entry))) (hasTicket (now (touching .entry))) ⌝ }
+{
+    fill_table(befores, table);
+    let mut listed = [0u32; ROW];
+    fill_places(befores, touching, &mut listed, list);
+    if row_within(touching, 0, &listed) {
+        return Answer::Ordered {
+            count: count_tickets(touching),
+        };
+    }
+    clear_list(list);
+    Answer::Ring
+}
+
+// The table: row i has a bit for each ticket that ticket i comes before.
+fn fill_table(befores: &[u32], table: &mut [u32])
+    requires { ⌜ length (now befores) ≡ tableWords ⌝ }
+    requires { ⌜ length (now table) ≡ tableWords ⌝ }
+    ensures { λ _. ⌜ now (table .exit) ≡ tableBy (hasBefore (now (befores .entry))) ⌝ }
+{
+    clear_words(table);
+    let mut w = 0;
+    while w < TABLE {
+        if befores[w] != 0 {
+            turn_word(befores, table, w);
+        }
+        w += 1;
+    }
+}
+
+// The bits of word w of the befores go into the table.
+fn turn_word(befores: &[u32], table: &mut [u32], w: usize)
+    requires { ⌜ length (now befores) ≡ tableWords ⌝ }
+    requires { ⌜ length (now table) ≡ tableWords ⌝ }
+    requires { ⌜ w < tableWords ⌝ }
+    ensures { λ _. ⌜ Turns (now (befores .entry)) (now (table .entry)) (now (table .exit)) (32 * w) 32 ⌝ }
+{
+    let mut s = 0;
+    while s < 32 {
+        turn_bit(befores, table, 32 * w + s);
+        s += 1;
+    }
+}
+
+// Bit k of the befores goes into the table: there the row is the earlier ticket's.
+fn turn_bit(befores: &[u32], table: &mut [u32], k: usize)
+    requires { ⌜ length (now befores) ≡ tableWords ⌝ }
+    requires { ⌜ length (now table) ≡ tableWords ⌝ }
+    requires { ⌜ k < tickets * tickets ⌝ }
+    ensures { λ _. ⌜ Turns (now (befores .entry)) (now (table .entry)) (now (table .exit)) k 1 ⌝ }
+{
+    if get_bit(befores, k) {
+        set_bit(table, TICKETS * (k % TICKETS) + k / TICKETS);
+    }
+}
+
+// The places are filled one by one, as long as a ticket may be listed.
+fn fill_places(befores: &[u32], touching: &[u32], listed: &mut [u32], list: &mut [u16])
+    requires { ⌜ length (now befores) ≡ tableWords ⌝ }
+    requires { ⌜ length (now touching) ≡ 8 ⌝ }
+    requires { ⌜ now listed ≡ replicate 8 0 ⌝ }
+    requires { ⌜ length (now list) ≡ tickets ⌝ }
+    ensures { λ _. ⌜ Filled (now (befores .entry)) (now (touching .entry)) (now (listed .exit)) (now (list .exit)) tickets ⌝ }
+{
+    clear_list(list);
+    let mut p = 0;
+    while p < TICKETS {
+        let ticket = next_ticket(befores, touching, listed);
+        if ticket == 0 {
+            return;
+        }
+        list[p] = ticket as u16;
+        set_bit(listed, (ticket - 1) as usize);
+        p += 1;
+    }
+}
+
+// The ticket to be listed next, or 0.
+fn next_ticket(befores: &[u32], touching: &[u32], listed: &[u32]) -> u32
+    requires { ⌜ length (now befores) ≡ tableWords ⌝ }
+    requires { ⌜ length (now touching) ≡ 8 ⌝ }
+    requires { ⌜ length (now listed) ≡ 8 ⌝ }
+    ensures { λ r. ⌜ r ≡ nextIn (now (befores .entry)) (now (touching .entry)) (now (listed .entry)) ⌝ }
+    ensures bounded { λ r. ⌜ r ≤ tickets ⌝ }
+{
+    let mut t = 0;
+    while t < TICKETS {
+        if is_ready(befores, touching, listed, t) {
+            return (t as u32) + 1;
+        }
+        t += 1;
+    }
+    0
+}
+
+// Ticket t + 1 may be listed next.
+fn is_ready(befores: &[u32], touching: &[u32], listed: &[u32], t: usize) -> bool
+    requires { ⌜ length (now befores) ≡ tableWords ⌝ }
+    requires { ⌜ length (now touching) ≡ 8 ⌝ }
+    requires { ⌜ length (now listed) ≡ 8 ⌝ }
+    requires { ⌜ t < tickets ⌝ }
+    ensures { λ r. ⌜ r ≡ readyIn (now (befores .entry)) (now (touching .entry)) (now (listed .entry)) (t + 1) ⌝ }
+{
+    if !get_bit(touching, t) {
+        return false;
+    }
+    if get_bit(listed, t) {
+        return false;
+    }
+    row_within(befores, ROW * t, listed)
+}
+
+// How many tickets a row has.
+fn count_tickets(row: &[u32]) -> u32
+    requires { ⌜ length (now row) ≡ 8 ⌝ }
+    ensures { λ r. ⌜ r ≡ count tickets (hasTicket (now (row .entry))) ⌝ }
+{
+    let mut count: u32 = 0;
+    let mut i = 0;
+    while i < TICKETS {
+        if get_bit(row, i) {
+            count += 1;
+        }
+        i += 1;
+    }
+    count
+}
+
+// The eight words of `from` from `start` on are joined to those of `to` from `at` on.
+fn or_row(to: &mut [u32], at: usize, from: &[u32], start: usize)
+    requires { ⌜ at + 8 ≤ length (now to) ⌝ }
+    requires { ⌜ start + 8 ≤ length (now from) ⌝ }
+    ensures { λ _. ⌜ now (to .exit) ≡ orWords 8 (now (to .entry)) at (now (from .entry)) start ⌝ }
+{
+    let mut i = 0;
+    while i < ROW {
+        to[at + i] = to[at + i] | from[start + i];
+        i += 1;
+    }
+}
+
+// The eight words of `row` from `start` on lie within those of `listed`.
+fn row_within(row: &[u32], start: usize, listed: &[u32]) -> bool
+    requires { ⌜ start + 8 ≤ length (now row) ⌝ }
+    requires { ⌜ 8 ≤ length (now listed) ⌝ }
+    ensures { λ r. ⌜ r ≡ withinWords 8 (now (row .entry)) start (now (listed .entry)) ⌝ }
+{
+    let mut i = 0;
+    while i < ROW {
+        if !words::within_word(row[start + i], listed[i]) {
+            return false;
+        }
+        i += 1;
+    }
+    true
+}
+
 // Bit k of a row is set.
 fn get_bit(row: &[u32], k: usize) -> bool
     requires { ⌜ k < 32 * length (now row) ⌝ }
@@ -86,284 +366,4 @@ fn clear_list(list: &mut [u16])
         list[i] = 0;
         i += 1;
     }
-}
-
-// The eight words of `from` from `start` on are joined to those of `to` from `at` on.
-fn or_row(to: &mut [u32], at: usize, from: &[u32], start: usize)
-    requires { ⌜ at + 8 ≤ length (now to) ⌝ }
-    requires { ⌜ start + 8 ≤ length (now from) ⌝ }
-    ensures { λ _. ⌜ now (to .exit) ≡ orWords 8 (now (to .entry)) at (now (from .entry)) start ⌝ }
-{
-    let mut i = 0;
-    while i < ROW {
-        to[at + i] = to[at + i] | from[start + i];
-        i += 1;
-    }
-}
-
-// The eight words of `row` from `start` on lie within those of `listed`.
-fn row_within(row: &[u32], start: usize, listed: &[u32]) -> bool
-    requires { ⌜ start + 8 ≤ length (now row) ⌝ }
-    requires { ⌜ 8 ≤ length (now listed) ⌝ }
-    ensures { λ r. ⌜ r ≡ withinWords 8 (now (row .entry)) start (now (listed .entry)) ⌝ }
-{
-    let mut i = 0;
-    while i < ROW {
-        if !words::within_word(row[start + i], listed[i]) {
-            return false;
-        }
-        i += 1;
-    }
-    true
-}
-
-// A ticket touches a record: its touchers come before the ticket, and the ticket is one of them.
-fn note_touch(
-    touchers: &mut [u32],
-    befores: &mut [u32],
-    touching: &mut [u32],
-    ticket: u32,
-    record: u32,
-)
-    requires { ⌜ length (now touchers) ≡ touchersLong ⌝ }
-    requires { ⌜ length (now befores) ≡ tableWords ⌝ }
-    requires { ⌜ length (now touching) ≡ 8 ⌝ }
-    requires { ⌜ In tickets ticket ⌝ }
-    requires { ⌜ «record» < records ⌝ }
-    ensures { λ _. ⌜ Takes (λ ts. touch ticket «record» ∷ ts) (now (touchers .entry)) (now (befores .entry)) (now (touching .entry)) (now (touchers .exit)) (now (befores .exit)) (now (touching .exit)) ⌝ }
-{
-    let t = (ticket - 1) as usize;
-    let r = record as usize;
-    or_row(befores, ROW * t, touchers, ROW * r);
-    clear_bit(befores, TICKETS * t + t);
-    set_bit(touchers, TICKETS * r + t);
-    set_bit(touching, t);
-}
-
-// Ticket t + 1 may be listed next.
-fn is_ready(befores: &[u32], touching: &[u32], listed: &[u32], t: usize) -> bool
-    requires { ⌜ length (now befores) ≡ tableWords ⌝ }
-    requires { ⌜ length (now touching) ≡ 8 ⌝ }
-    requires { ⌜ length (now listed) ≡ 8 ⌝ }
-    requires { ⌜ t < tickets ⌝ }
-    ensures { λ r. ⌜ r ≡ readyIn (now (befores .entry)) (now (touching .entry)) (now (listed .entry)) (t + 1) ⌝ }
-{
-    if !get_bit(touching, t) {
-        return false;
-    }
-    if get_bit(listed, t) {
-        return false;
-    }
-    row_within(befores, ROW * t, listed)
-}
-
-// The ticket to be listed next, or 0.
-fn next_ticket(befores: &[u32], touching: &[u32], listed: &[u32]) -> u32
-    requires { ⌜ length (now befores) ≡ tableWords ⌝ }
-    requires { ⌜ length (now touching) ≡ 8 ⌝ }
-    requires { ⌜ length (now listed) ≡ 8 ⌝ }
-    ensures { λ r. ⌜ r ≡ nextIn (now (befores .entry)) (now (touching .entry)) (now (listed .entry)) ⌝ }
-    ensures bounded { λ r. ⌜ r ≤ tickets ⌝ }
-{
-    let mut t = 0;
-    while t < TICKETS {
-        if is_ready(befores, touching, listed, t) {
-            return (t as u32) + 1;
-        }
-        t += 1;
-    }
-    0
-}
-
-// The places are filled one by one, as long as a ticket may be listed.
-fn fill_places(befores: &[u32], touching: &[u32], listed: &mut [u32], list: &mut [u16])
-    requires { ⌜ length (now befores) ≡ tableWords ⌝ }
-    requires { ⌜ length (now touching) ≡ 8 ⌝ }
-    requires { ⌜ now listed ≡ replicate 8 0 ⌝ }
-    requires { ⌜ length (now list) ≡ tickets ⌝ }
-    ensures { λ _. ⌜ Filled (now (befores .entry)) (now (touching .entry)) (now (listed .exit)) (now (list .exit)) tickets ⌝ }
-{
-    clear_list(list);
-    let mut p = 0;
-    while p < TICKETS {
-        let ticket = next_ticket(befores, touching, listed);
-        if ticket == 0 {
-            return;
-        }
-        list[p] = ticket as u16;
-        set_bit(listed, (ticket - 1) as usize);
-        p += 1;
-    }
-}
-
-// How many tickets a row has.
-fn count_tickets(row: &[u32]) -> u32
-    requires { ⌜ length (now row) ≡ 8 ⌝ }
-    ensures { λ r. ⌜ r ≡ count tickets (hasTicket (now (row .entry))) ⌝ }
-{
-    let mut count: u32 = 0;
-    let mut i = 0;
-    while i < TICKETS {
-        if get_bit(row, i) {
-            count += 1;
-        }
-        i += 1;
-    }
-    count
-}
-
-// Bit k of the befores goes into the table: there the row is the earlier ticket's.
-fn turn_bit(befores: &[u32], table: &mut [u32], k: usize)
-    requires { ⌜ length (now befores) ≡ tableWords ⌝ }
-    requires { ⌜ length (now table) ≡ tableWords ⌝ }
-    requires { ⌜ k < tickets * tickets ⌝ }
-    ensures { λ _. ⌜ Turns (now (befores .entry)) (now (table .entry)) (now (table .exit)) k 1 ⌝ }
-{
-    if get_bit(befores, k) {
-        set_bit(table, TICKETS * (k % TICKETS) + k / TICKETS);
-    }
-}
-
-// The bits of word w of the befores go into the table.
-fn turn_word(befores: &[u32], table: &mut [u32], w: usize)
-    requires { ⌜ length (now befores) ≡ tableWords ⌝ }
-    requires { ⌜ length (now table) ≡ tableWords ⌝ }
-    requires { ⌜ w < tableWords ⌝ }
-    ensures { λ _. ⌜ Turns (now (befores .entry)) (now (table .entry)) (now (table .exit)) (32 * w) 32 ⌝ }
-{
-    let mut s = 0;
-    while s < 32 {
-        turn_bit(befores, table, 32 * w + s);
-        s += 1;
-    }
-}
-
-// The table: row i has a bit for each ticket that ticket i comes before.
-fn fill_table(befores: &[u32], table: &mut [u32])
-    requires { ⌜ length (now befores) ≡ tableWords ⌝ }
-    requires { ⌜ length (now table) ≡ tableWords ⌝ }
-    ensures { λ _. ⌜ now (table .exit) ≡ tableBy (hasBefore (now (befores .entry))) ⌝ }
-{
-    clear_words(table);
-    let mut w = 0;
-    while w < TABLE {
-        if befores[w] != 0 {
-            turn_word(befores, table, w);
-        }
-        w += 1;
-    }
-}
-
-// The table and the list, from the rows of befores and of tickets with a touch.
-fn settle(befores: &[u32], touching: &[u32], table: &mut [u32], list: &mut [u16]) -> Answer
-    requires { ⌜ length (now befores) ≡ tableWords ⌝ }
-    requires { ⌜ length (now touching) ≡ 8 ⌝ }
-    requires { ⌜ length (now table) ≡ tableWords ⌝ }
-    requires { ⌜ length (now list) ≡ tickets ⌝ }
-    ensures { λ r. ⌜ called r (now (table .exit)) (now (list .exit)) ≡ settled (hasBefore (now (befores .entry))) (hasTicket (now (touching .entry))) ⌝ }
-{
-    fill_table(befores, table);
-    let mut listed = [0u32; ROW];
-    fill_places(befores, touching, &mut listed, list);
-    if row_within(touching, 0, &listed) {
-        return Answer::Ordered {
-            count: count_tickets(touching),
-        };
-    }
-    clear_list(list);
-    Answer::Ring
-}
-
-// An event's ticket.
-fn ticket_of(event: Event) -> u32
-    ensures { λ r. ⌜ r ≡ ticketOf event ⌝ }
-{
-    match event {
-        Event::Started { ticket } => ticket,
-        Event::Granted { ticket, .. } => ticket,
-        Event::Touched { ticket, .. } => ticket,
-        Event::Released { ticket, .. } => ticket,
-        Event::Finished { ticket } => ticket,
-    }
-}
-
-// An event is taken in: only a touch counts.
-fn note_event(touchers: &mut [u32], befores: &mut [u32], touching: &mut [u32], event: Event)
-    requires { ⌜ length (now touchers) ≡ touchersLong ⌝ }
-    requires { ⌜ length (now befores) ≡ tableWords ⌝ }
-    requires { ⌜ length (now touching) ≡ 8 ⌝ }
-    requires { ⌜ In tickets (ticketOf event) ⌝ }
-    requires { ⌜ recordOf event < records ⌝ }
-    ensures { λ _. ⌜ Takes (counted event) (now (touchers .entry)) (now (befores .entry)) (now (touching .entry)) (now (touchers .exit)) (now (befores .exit)) (now (touching .exit)) ⌝ }
-{
-    match event {
-        Event::Started { .. } => {}
-        Event::Granted { .. } => {}
-        Event::Touched { ticket, record } => note_touch(
-            touchers,
-            befores,
-            touching,
-            ticket,
-            record,
-        ),
-        Event::Released { .. } => {}
-        Event::Finished { .. } => {}
-    }
-}
-
-// The trace is walked event by event; at its end the order is settled.
-fn walk_trace(
-    trace: &[u8],
-    touchers: &mut [u32],
-    befores: &mut [u32],
-    touching: &mut [u32],
-    table: &mut [u32],
-    list: &mut [u16],
-) -> Answer
-    requires { ⌜ Rows [] (now touchers) (now befores) (now touching) ⌝ }
-    requires { ⌜ length (now table) ≡ tableWords ⌝ }
-    requires { ⌜ length (now list) ≡ tickets ⌝ }
-    ensures { λ r. ⌜ called r (now (table .exit)) (now (list .exit)) ≡ orderBy (walk (now (trace .entry))) (now (table .entry)) (now (list .entry)) ⌝ }
-{
-    let mut at = 0;
-    loop {
-        let got = trace::read(&trace[at..]);
-        let Reading::Found { event, length } = got else {
-            if let Reading::Unread(fault) = got {
-                return Answer::Unread { fault, at };
-            }
-            return settle(befores, touching, table, list);
-        };
-        if TICKETS < ticket_of(event) as usize {
-            return Answer::FarTicket { at };
-        }
-        note_event(touchers, befores, touching, event);
-        at += length;
-    }
-}
-
-// The order of a trace: the table of befores and the list of tickets, and how many there are, or why there is none.
-pub fn order_of(trace: &[u8], table: &mut [u32], list: &mut [u16]) -> Answer
-    ensures { λ r. ⌜ called r (now (table .exit)) (now (list .exit)) ≡ orderOf (now (trace .entry)) (now (table .entry)) (now (list .entry)) ⌝ }
-{
-    if table.len() != TABLE {
-        return Answer::WrongLength;
-    }
-    if list.len() != TICKETS {
-        return Answer::WrongLength;
-    }
-    if LONGEST < trace.len() {
-        return Answer::TooLong;
-    }
-    let mut touchers = [0u32; TOUCHERS];
-    let mut befores = [0u32; TABLE];
-    let mut touching = [0u32; ROW];
-    walk_trace(
-        trace,
-        &mut touchers,
-        &mut befores,
-        &mut touching,
-        table,
-        list,
-    )
 }

@@ -32,7 +32,7 @@ same-length-2 : tie.Need-same-length-2 Inv-loop μ-loop
 same-length-2 c = search needs
 
 returns : tie.Need-returns Inv-loop μ-loop
-returns c = filled-stop _ _ (c .before .before .before .before .loop .inv .1) (c .before .next-ticket .ensures .0) (c .if1 .taken) (omega arith)
+returns c = search (filled-stop, needs)
 
 cast-list : tie.Need-cast-list Inv-loop μ-loop
 cast-list c = search needs
@@ -59,7 +59,7 @@ loop-less : tie.Need-loop-less Inv-loop μ-loop
 loop-less c = search needs
 
 loop-again : tie.Need-loop-again Inv-loop μ-loop
-loop-again c = (omega arith, filled-more _ _ (c .before .before .before .before .before .before .before .before .loop .inv .1) (c .before .before .before .before .before .next-ticket .ensures .0) (c .before .before .before .before .if1 .left) (c .before .before .set-bit .ensures) (omega arith))
+loop-again c = (omega arith, search (filled-more, needs))
 
 same-length-3 : tie.Need-same-length-3 Inv-loop μ-loop
 same-length-3 c = search needs

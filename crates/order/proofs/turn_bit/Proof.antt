@@ -1,7 +1,5 @@
 -- The bit is set in the table where it is set in the befores.
 use borrow.Author.Needs.{needs}
-use mathlib.Core.Path.{sym, _∙_}
-use native.Mathlib.Omega.{arith}
 use Rattle.order.proofs.Table.{turned-on, turned-off}
 use Rattle.order.proofs.turn_bit.Statement.{statement}
 use Rattle.order.proofs.turn_bit.Tie as tie
@@ -22,10 +20,10 @@ same-length : tie.Need-same-length
 same-length c = search needs
 
 returns : tie.Need-returns
-returns c = turned-on (c .before .before .set-bit .ensures) (sym (c .before .before .before .before .before .get-bit .ensures) ∙ c .before .before .before .before .if1 .taken) (omega arith)
+returns c = search (turned-on, needs)
 
 returns-2 : tie.Need-returns-2
-returns-2 c = turned-off (sym (c .before .get-bit .ensures) ∙ c .if1 .left)
+returns-2 c = search (turned-off, needs)
 
 pub turn-bit-spec : {M : Type 1} → statement M
 turn-bit-spec =

@@ -50,7 +50,7 @@ same-length-5 : tie.Need-same-length-5 Inv-loop μ-loop
 same-length-5 c = search needs
 
 returns : tie.Need-returns Inv-loop μ-loop
-returns c = walking-unread (c .before .before .before .before .before .before .loop .inv) (c .before .before .before .before .read .result) (c .before .before .before .before .read .ensures) (c .before .got2 .given .1)
+returns c = search (walking-unread, needs)
 
 settle-requires : tie.Need-settle-requires Inv-loop μ-loop
 settle-requires c κs = search needs
@@ -71,7 +71,7 @@ same-length-10 : tie.Need-same-length-10 Inv-loop μ-loop
 same-length-10 c = search needs
 
 returns-2 : tie.Need-returns-2 Inv-loop μ-loop
-returns-2 c = walking-end (c .before .before .before .before .before .before .before .before .before .before .before .before .before .loop .inv) (c .before .before .before .before .before .before .before .before .before .before .before .read .result) (c .before .before .before .before .before .before .before .before .before .before .before .read .ensures) (c .before .before .before .before .settle .result) (c .before .before .before .before .before .before .before .before .before .before .match .keys2) (c .before .before .before .before .before .before .before .before .before .match2 .keys2) (c .before .before .before .before .settle .ensures)
+returns-2 c = search (walking-end, needs)
 
 ticket-of-requires : tie.Need-ticket-of-requires Inv-loop μ-loop
 ticket-of-requires c κs = search needs
@@ -95,12 +95,12 @@ same-length-15 : tie.Need-same-length-15 Inv-loop μ-loop
 same-length-15 c = search needs
 
 returns-3 : tie.Need-returns-3 Inv-loop μ-loop
-returns-3 c = walking-far (c .before .before .before .before .before .before .before .loop .inv) (c .before .before .before .before .before .read .result) (c .before .before .before .before .before .read .ensures) (c .before .before .before .got .given .1) (rw (c .before .ticket-of .ensures) at (c .if1 .taken))
+returns-3 c = search (walking-far, needs)
 
 note-event-requires : tie.Need-note-event-requires Inv-loop μ-loop
 note-event-requires c κs =
     let r = c .before .before .before .before .before .before .before .before .before .before .loop .inv .rows in
-    let n = event-near (c .before .before .before .before .before .before .before .before .before .before .loop .inv) (c .before .before .before .before .before .before .before .before .read .result) (c .before .before .before .before .before .before .before .before .read .ensures) (c .before .before .before .before .before .before .got .given .1) (rw (c .before .before .before .before .ticket-of .ensures) at (c .before .before .before .if1 .left)) in
+    let n = event-near (c .before .before .before .before .before .before .before .before .before .before .loop .inv) (c .before .before .before .before .before .before .before .before .read .result) (c .before .before .before .before .before .before .before .before .read .ensures) (c .before .before .before .before .before .before .got .given .1) (c .before .before .before .before .ticket-of .ensures) (c .before .before .before .if1 .left) in
     (r .touchers-long, (r .befores-long, (r .touching-long, n)))
 
 add-at : tie.Need-add-at Inv-loop μ-loop
@@ -110,7 +110,7 @@ loop-less : tie.Need-loop-less Inv-loop μ-loop
 loop-less c = omega (arith, event-fits (c .before .before .before .before .before .before .before .before .before .before .before .before .before .before .before .before .before .loop .inv) (c .before .before .before .before .before .before .before .before .before .before .before .before .before .before .before .read .result) (c .before .before .before .before .before .before .before .before .before .before .before .before .before .before .before .read .ensures) (c .before .before .before .before .before .before .before .before .before .before .before .before .before .got .given .1))
 
 loop-again : tie.Need-loop-again Inv-loop μ-loop
-loop-again c = walking-on (c .before .before .before .before .before .before .before .before .before .before .before .before .before .before .before .before .before .loop .inv) (c .before .before .before .before .before .before .before .before .before .before .before .before .before .before .before .read .result) (c .before .before .before .before .before .before .before .before .before .before .before .before .before .before .before .read .ensures) (c .before .before .before .before .before .before .before .before .before .before .before .before .before .got .given .1) (rw (c .before .before .before .before .before .before .before .before .before .before .before .ticket-of .ensures) at (c .before .before .before .before .before .before .before .before .before .before .if1 .left)) (c .before .before .before .before .before .before .note-event .ensures)
+loop-again c = search (walking-on, needs)
 
 pub walk-trace-spec : {M : Type 1} → statement M
 walk-trace-spec =
