@@ -6,6 +6,7 @@ use Prim.Native.Nat.{ℕ}
 use lib.Dec.{eqb}
 use lib.ListN.{length}
 use Rattle.words.specs.Tests.{pick, either, clash}
+use Rattle.words.specs.Promises.{one-value}
 use Rattle.desk.specs.Answers.{number, Said, started, wait, refused, granted, held, touched, released, finished, said, ClearSaid, cleared, uncleared, clearSaid, Rule, allowed, told}
 use Rattle.desk.specs.Step.{State, Outcome, outcome, after, ClearOutcome, opened, freeDesk, fitting, clearing, ruled, about, beginStep, lockStep, touchStep, releaseStep, finishStep, kind, step}
 use Rattle.desk.specs.declared.Seat.{Seat}
@@ -82,6 +83,10 @@ pub clear-said-once : (a b : Clearing) → clearSaid a ≡ clearSaid b → a ≡
 clear-said-once a b e = sym (cleared-back-said a) ∙ ap cleared-back e ∙ cleared-back-said b
 
 -- ---- so each contract allows one result
+
+-- `refusal_number`: one number
+pub one-number : (r : Refusal) {k k′ : ℕ} → k ≡ number r → k′ ≡ number r → k ≡ k′
+one-number r = one-value
 
 -- `judge`: one reply and one pair of tables
 pub one-reply : (r r′ : Reply) (h h′ l l′ : List ℕ) (o : Outcome) → after r h l ≡ o → after r′ h′ l′ ≡ o → (r ≡ r′) × (h ≡ h′) × (l ≡ l′)

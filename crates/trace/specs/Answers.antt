@@ -24,7 +24,7 @@ pub data NumberSaid : Type 0 where
   no-value : ℕ → NumberSaid
 
 abbrev pub numberSaid : Numeral → NumberSaid
-numberSaid (Value n length) = value n length
+numberSaid (Value n k) = value n k
 numberSaid (Bad f) = no-value (number f)
 
 -- reading an event gives the event and its length, or end if nothing is left, or a refusal
@@ -34,7 +34,7 @@ pub data ReadingSaid : Type 0 where
   no-event : ℕ → ReadingSaid
 
 abbrev pub readingSaid : Reading → ReadingSaid
-readingSaid (Found e length) = event e length
+readingSaid (Found e k) = event e k
 readingSaid End = end
 readingSaid (Unread f) = no-event (number f)
 
@@ -44,5 +44,5 @@ pub data WritingSaid : Type 0 where
   unwritten : ℕ → WritingSaid
 
 abbrev pub writingSaid : Writing → WritingSaid
-writingSaid (Written length) = written length
+writingSaid (Written k) = written k
 writingSaid (Unwritten f) = unwritten (number f)

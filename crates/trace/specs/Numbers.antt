@@ -15,7 +15,7 @@ spellNumber n =
 
 -- a number of two or three bytes, by its last byte: 21 where that is 0 (not shortest) or the number is over the limit
 unfoldable pub judge : ℕ → ℕ → ℕ → NumberSaid
-judge final n length = pick (eqb final 0) (no-value 21) (pick (leb n limit) (value n length) (no-value 21))
+judge final n k = pick (eqb final 0) (no-value 21) (pick (leb n limit) (value n k) (no-value 21))
 
 -- the third byte, after the two lower groups: 20 where it is missing, 21 where its top bit is set
 unfoldable pub readThird : ℕ → List ℕ → NumberSaid

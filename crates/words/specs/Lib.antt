@@ -10,3 +10,5 @@ pub mod Tests
 pub mod Passes
 pub mod Parts
 pub mod Chains
+-- Promises
+pub mod Promises
