@@ -2,8 +2,7 @@
 -- That no request, table or trace sends a call outside its bounds or keeps it from returning is what the checker proves of every
 -- function: no public call has a `requires`, so each of them holds for every input, however damaged.
 use Prim.Native.Nat.{ℕ, _<_}
-use mathlib.Core.Path.{_≡_, refl, ap, _∙_}
-use mathlib.Core.Bool.{true}
+use mathlib.Core.Path.{_≡_, ap}
 use mathlib.Core.Logic.{_≢_, _↔_}
 use mathlib.Core.List.{List}
 use lib.ListN.{length}

@@ -1,8 +1,8 @@
 -- Demand 3: no chain of befores returns to its start, and the order call lists the changes of a run's trace.
 use Prim.Native.Nat.{ℕ, _≤_, _<_}
-use mathlib.Core.Path.{_≡_, refl, sym, ap, subst}
+use mathlib.Core.Path.{_≡_, sym, ap, subst}
 use mathlib.Core.Logic.{_≢_}
-use mathlib.Core.List.{List, reverse, reverse-reverse}
+use mathlib.Core.List.{List, reverse, reverse-reverse, List·Memᴰ}
 use native.Mathlib.Omega.{arith}
 use lib.ListN.{length, getD}
 use Rattle.words.specs.Chains.{Ring}
@@ -11,8 +11,8 @@ use Rattle.trace.specs.Answers.{end, written}
 use Rattle.trace.specs.Events.{spell, Wrote, writeAt}
 use Rattle.trace.specs.EventLaws.{write-done}
 use Rattle.trace.specs.Causes.{ticketOf}
-use Rattle.trace.specs.History.{History, Touches, Accesses, Some, now, ago, Before}
-use Rattle.trace.specs.Traces.{AllFair, none, more, readAll, spellAll, fair-each, fair-onto, trace-back}
+use Rattle.trace.specs.History.{History, Touches, Accesses, Before}
+use Rattle.trace.specs.Traces.{none, readAll, spellAll, fair-each, fair-onto, trace-back}
 use Rattle.desk.specs.declared.Request.{Request}
 use Rattle.desk.specs.Limits.{seats}
 use Rattle.desk.specs.Answers.{cleared}
@@ -25,9 +25,8 @@ use Rattle.order.specs.Answers.{ordered, Call}
 use Rattle.order.specs.Befores.{HasTouch}
 use Rattle.order.specs.Listing.{Stands, May}
 use Rattle.order.specs.Causes.{Near, Fit}
-use Rattle.order.specs.Order.{orderOf}
-use Rattle.order.specs.RingLaws.{OrderList}
-use Rattle.order.specs.WalkLaws.{near-onto}
+use Rattle.order.specs.Order.{OrderList, orderOf}
+use Rattle.order.specs.WalkLaws.{near-fair, near-onto}
 use Rattle.order.specs.Theorems.{spelled-order, each-once, befores-first}
 use Rattle.demands.specs.Run.{Moment, run}
 use Rattle.demands.specs.Keeps.{Good}
@@ -49,13 +48,8 @@ pub record Listed (h : History) (c : Call) : Type 0 where
 
 -- ---- laws
 
--- events that are fair and have tickets up to 256 are near
-near : {h : History} → AllFair h → ((e : Event) → Some (λ x. x ≡ e) h → ticketOf e ≤ tickets) → Near h
-near none f = Near.none
-near (more {e} p a) f = Near.more p (f e (now refl)) (near a (λ d s. f d (ago s)))
-
 -- in a good moment every ticket is at most the number begun
-counted : {n : ℕ} {m : Moment} → Good n m → (e : Event) → Some (λ x. x ≡ e) (m .history) → ticketOf e ≤ m .state .desk .begun
+counted : {n : ℕ} {m : Moment} → Good n m → (e : Event) → List·Memᴰ e (m .history) → ticketOf e ≤ m .state .desk .begun
 counted G e s = G .sound .reads .seats .counted (ticketOf e) (event-started (G .sound .lawful) s)
 
 module _ (h l : List ℕ) (fits : clearing seats h l .says ≡ cleared) (qs : List Request) where
@@ -84,7 +78,7 @@ module _ (h l : List ℕ) (fits : clearing seats h l .says ≡ cleared) (qs : Li
   no-junction e = demand-three (subst (λ k. Ring (Before Touches k)) (sym e) junction-ring)
 
   -- every event of the run can be written where there is room for it,
-  pub each-written : (e : Event) → Some (λ x. x ≡ e) past → (room : List ℕ) → length (spell e) ≤ length room → writeAt e room .says ≡ written (length (spell e))
+  pub each-written : (e : Event) → List·Memᴰ e past → (room : List ℕ) → length (spell e) ≤ length room → writeAt e room .says ≡ written (length (spell e))
   each-written e s room long = ap (λ (w : Wrote). w .says) (write-done e room (fair-each (G .fair) s) long)
 
   -- and the trace reads back as the run's events, oldest first, and then ends
@@ -95,7 +89,7 @@ module _ (h l : List ℕ) (fits : clearing seats h l .says ≡ cleared) (qs : Li
   -- once, nothing later than a change it comes before, and at each place the lowest ticket that may stand there.
   pub demand-three-order : (table list : List ℕ) → Fit table list → length bytes ≤ longest → run seats h l qs .state .desk .begun ≤ tickets → Listed past (orderOf bytes table list)
   demand-three-order table list fit short few =
-      let n : Near past = near (G .fair) (λ e s. let k = counted G e s in omega arith) in
+      let n : Near past = near-fair (G .fair) (λ e s. let k = counted G e s in omega arith) in
       let o = spelled-order (near-onto n Near.none) fit short (subst (λ k. ¬ Ring (Before Touches k)) (sym (reverse-reverse past)) demand-three) in
       let list-is = subst (λ k. OrderList k (o .0) (orderOf bytes table list .list)) (reverse-reverse past) (o .2) in
       record {

@@ -3,7 +3,7 @@ use Prim.Native.Nat.{ℕ, _<_}
 use mathlib.Core.Path.{_≡_, refl, sym, subst}
 use mathlib.Core.Bool.{true}
 use mathlib.Core.Logic.{_↔_, _⊎_, inl, inr, ⊎-elim}
-use mathlib.Core.List.{List, _∷_, _++_}
+use mathlib.Core.List.{List, _∷_, _++_, List·Memᴰ}
 use native.Mathlib.Omega.{arith}
 use borrow.Author.Tests.{eq-eqb, lt-leb}
 use lib.ListN.{length, take, List·getD-eq-default}
@@ -13,7 +13,7 @@ use Rattle.words.specs.Word.{has}
 use Rattle.words.specs.WordLaws.{within-bits, all-eq}
 use Rattle.trace.specs.declared.Event.{Event}
 use Rattle.trace.specs.declared.Event.the-variants.{Granted}
-use Rattle.trace.specs.History.{History, Some}
+use Rattle.trace.specs.History.{History}
 use Rattle.trace.specs.Answers.{event}
 use Rattle.trace.specs.Events.{spell, fair, readAt}
 use Rattle.trace.specs.EventLaws.{event-back, one-spelling}
@@ -130,7 +130,7 @@ module _ (h l : List ℕ) (fits : clearing seats h l .says ≡ cleared) (qs : Li
       step-judged (good-run seats h l qs fits) s t a sits (subst (λ k. a < k) (sym (long-run seats h l qs fits)) inside) new unreleased
 
   -- Each traced event reads back as itself, whatever follows it,
-  pub traced-back : (e : Event) → Some (λ x. x ≡ e) (here .history) → (rest : List ℕ) → readAt (spell e ++ rest) ≡ event e (length (spell e))
+  pub traced-back : (e : Event) → List·Memᴰ e (here .history) → (rest : List ℕ) → readAt (spell e ++ rest) ≡ event e (length (spell e))
   traced-back e s rest = event-back e rest (fair-each (good-run seats h l qs fits .fair) s)
 
 -- and each accepted event has one spelling.

@@ -7,12 +7,17 @@ use lib.ListN.{length, replicate}
 use Rattle.words.specs.Tests.{pick}
 use Rattle.words.specs.Rows.{words}
 use Rattle.trace.specs.History.{History}
+use Rattle.trace.specs.History.{History, Touches, Before}
 use Rattle.order.specs.Limits.{tickets, tableWords, longest}
 use Rattle.order.specs.Counting.{count}
-use Rattle.order.specs.Listing.{places, complete}
-use Rattle.order.specs.Befores.{touches, someTouch, before}
+use Rattle.order.specs.Listing.{Lists, places, complete}
+use Rattle.order.specs.Befores.{HasTouch, touches, someTouch, before}
 use Rattle.order.specs.Answers.{ordered, refused, Call}
 use Rattle.order.specs.Walk.{Walked, whole, faulty, walk}
+
+-- the order list of a history: K tickets, those with a touch, at each place the lowest unlisted one all of whose befores are listed, and zeros after
+abbrev pub OrderList : History → ℕ → List ℕ → Type 0
+OrderList h K xs = Lists tickets (Before Touches h) (HasTouch h) K xs
 
 -- the table: word 8(i-1) + (j-1)/32, bit (j-1) mod 32, says whether i comes before j
 unfoldable pub tableBy : (ℕ → ℕ → Bool) → List ℕ

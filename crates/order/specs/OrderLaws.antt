@@ -53,7 +53,7 @@ pub data Went (trace table list : List ℕ) : Call → Type 0 where
   stopped : {k at : ℕ} → Fit table list → length trace ≤ longest → walk trace ≡ faulty k at → Went trace table list (refusal k at table list)
   ringed : {h : History} → Accepted trace table list h → allListed h ≡ false
       → Went trace table list (record { says = refused 28 0; table = tableOf h; list = replicate tickets 0 })
-  listed : {h : History} → Accepted trace table list h → allListed h ≡ true
+  in-order : {h : History} → Accepted trace table list h → allListed h ≡ true
       → Went trace table list (record { says = ordered (countOf h); table = tableOf h; list = listOf h })
 
 -- a call that is accepted is settled
@@ -88,7 +88,7 @@ settled-ring b m e = rw e
 -- so it is listed or has a ring
 pub settles : {trace table list : List ℕ} {h : History} → Accepted trace table list h → Went trace table list (orderOf trace table list)
 settles {h = h} a =
-    ⊎-elim (λ e. rw (order-settles a, settled-all (before (touches h)) (someTouch (touches h)) e) (listed a e)) (λ e. rw (order-settles a, settled-ring (before (touches h)) (someTouch (touches h)) e) (ringed a e))
+    ⊎-elim (λ e. rw (order-settles a, settled-all (before (touches h)) (someTouch (touches h)) e) (in-order a e)) (λ e. rw (order-settles a, settled-ring (before (touches h)) (someTouch (touches h)) e) (ringed a e))
     (which (allListed h))
 
 -- every call comes to one of these ends

@@ -63,6 +63,7 @@ module _ (n : ℕ) (b : ℕ → ℕ → Bool) (m : ℕ → Bool) where
     new : l j ≡ false
     befores : (i : ℕ) → In n i → b i j ≡ true → l i ≡ true
 
+  -- a ready ticket has all three
   parts : (l : ℕ → Bool) (j : ℕ) → ready n b m l j ≡ true → Ready l j
   unfolding ready
   parts l j h =
@@ -82,6 +83,7 @@ module _ (n : ℕ) (b : ℕ → ℕ → Bool) (m : ℕ → Bool) where
   abbrev Listed : ℕ → ℕ → Bool
   Listed k i = elem i (P k)
 
+  -- one place more
   listed-suc : (k i : ℕ) → Listed (suc k) i ≡ (Listed k i || eqb (N k) i)
   unfolding places
   listed-suc k i = elem-snoc i (P k) (N k)
@@ -108,9 +110,11 @@ module _ (n : ℕ) (b : ℕ → ℕ → Bool) (m : ℕ → Bool) where
 
   -- ---- one place
 
+  -- after k places nothing is ready, and place k is 0
   Stuck : ℕ → Type 0
   Stuck k = (N k ≡ 0) × ((i : ℕ) → In n i → ready n b m (Listed k) i ≡ false)
 
+  -- place k has the lowest ticket that is ready
   Fills : ℕ → Type 0
   Fills k = Found n (ready n b m (Listed k)) (N k)
 

@@ -1,22 +1,15 @@
--- A history's tickets are all listed exactly if its befores close no ring, and then the places are the list that 01 describes.
-use Prim.Native.Nat.{ℕ}
+-- A history's tickets are all listed exactly if its befores close no ring, and then the places are its order list.
 use mathlib.Core.Path.{_≡_}
 use mathlib.Core.Bool.{true, false}
-use mathlib.Core.List.{List}
 use Rattle.words.specs.Chains.{Ring}
 use Rattle.trace.specs.History.{History, Touches, Before}
 use Rattle.order.specs.Limits.{tickets}
-use Rattle.order.specs.Listing.{Lists}
 use Rattle.order.specs.PlaceLaws.{ring-stuck, stuck-ring, places-list}
-use Rattle.order.specs.Befores.{HasTouch, touches, someTouch, before}
+use Rattle.order.specs.Befores.{touches, someTouch, before}
 use Rattle.order.specs.BeforeLaws.{before-iff, some-touch-iff, before-src, before-dst}
 use Rattle.order.specs.WalkLaws.{near-touch}
-use Rattle.order.specs.Order.{allListed, countOf, listOf}
+use Rattle.order.specs.Order.{OrderList, allListed, countOf, listOf}
 use Rattle.order.specs.Causes.{Near}
-
--- the list that 01 describes: K tickets, those with a touch, at each place the lowest unlisted one all of whose befores are listed, and zeros after
-abbrev pub OrderList : History → ℕ → List ℕ → Type 0
-OrderList h K xs = Lists tickets (Before Touches h) (HasTouch h) K xs
 
 module _ {h : History} (n : Near h) where
   -- all are listed exactly if there is no ring

@@ -25,12 +25,12 @@ use Rattle.order.specs.Befores.{HasTouch, touches, someTouch, before}
 use Rattle.order.specs.BeforeLaws.{before-iff, some-touch-iff, before-src}
 use Rattle.order.specs.Walk.{Walked, whole, walkFrom, walk}
 use Rattle.order.specs.WalkLaws.{Ends, done, far, Walks, walks, walk-over, walk-whole, near-each, near-onto}
-use Rattle.order.specs.Order.{allListed, countOf, listOf, orderOf}
+use Rattle.order.specs.Order.{OrderList, allListed, countOf, listOf, orderOf}
 use Rattle.order.specs.Causes.{Near, none, Fit, Accepted, OrderCause, wrong-length, too-long, unread, far-ticket, ring}
 use Rattle.order.specs.Spelled.{spelled-bytes}
 use Rattle.order.specs.CauseLaws.{begins-bytes, walk-begins, walk-cause}
-use Rattle.order.specs.RingLaws.{OrderList, no-ring, a-ring, the-list}
-use Rattle.order.specs.OrderLaws.{order-wrong, order-long, order-walks, order-settles, settled-table, table-bit, settled-all, settled-ring, Went, wrong, long, stopped, ringed, listed, went}
+use Rattle.order.specs.RingLaws.{no-ring, a-ring, the-list}
+use Rattle.order.specs.OrderLaws.{order-wrong, order-long, order-walks, order-settles, settled-table, table-bit, settled-all, settled-ring, Went, wrong, long, stopped, ringed, in-order, went}
 
 -- ---- the walk
 
@@ -60,7 +60,7 @@ walk-ranges trace by e = near-each (walk-near trace by e)
 -- ---- the table
 
 -- word 8(i-1) + (j-1)/32, whole part, bit (j-1) mod 32, of the table is set exactly if i comes before j,
--- where the call is accepted, as it is where it orders (`listed-order`) or refuses with 28 (`ring-exactly`)
+-- where the call is accepted, as it is where it orders (`listed`) or refuses with 28 (`ring-exactly`)
 pub table-pairs : {trace table list : List ℕ} {h : History} → Accepted trace table list h → (i j : ℕ) → In tickets i → In tickets j
     → (has (getD (orderOf trace table list .table) (8 * (i - 1) + (j - 1) / 32) 0) ((j - 1) % 32) ≡ true) ↔ Before Touches h i j
 table-pairs {h = h} a i j hi hj =
@@ -75,7 +75,7 @@ module _ (trace table list : List ℕ) (by : Bytes trace) where
   at-28 (long f l) e = let q : _≡_ {A = ℕ} 26 28 = cc in absurd (omega arith)
   at-28 (stopped {k = k} f l w) e = let q : k ≡ 28 = cc in absurd (omega (arith, walk-cause table list by f l w .1))
   at-28 (ringed {h} a c) e = (h, a, a-ring (walk-near trace by (a .walked)) c, refl)
-  at-28 (listed a c) e = absurd (clash (cc))
+  at-28 (in-order a c) e = absurd (clash (cc))
 
   -- 28 is given exactly if the call is accepted and the befores close a ring
   pub ring-exactly : (orderOf trace table list .says ≡ refused 28 0) ↔ ((h : History) × Accepted trace table list h × Ring (Before Touches h))
@@ -99,22 +99,7 @@ module _ (trace table list : List ℕ) (by : Bytes trace) where
       go (long f l) e z = (refl, refl)
       go (stopped f l w) e z = (refl, refl)
       go (ringed a c) e z = absurd (z (cc))
-      go (listed a c) e z = absurd (clash (cc))
-
-  -- an order of K tickets is given where the call is accepted, as some h, and has no ring; and the list is the one that 01 describes
-  pub listed-order : {K : ℕ} → orderOf trace table list .says ≡ ordered K
-      → (h : History) × Accepted trace table list h × (¬ Ring (Before Touches h)) × OrderList h K (orderOf trace table list .list)
-  listed-order {K} = go (went trace table list)
-    where
-      go : {c : Call} → Went trace table list c → c .says ≡ ordered K → (h : History) × Accepted trace table list h × (¬ Ring (Before Touches h)) × OrderList h K (c .list)
-      go (wrong n) e = absurd (clash (cc))
-      go (long f l) e = absurd (clash (cc))
-      go (stopped f l w) e = absurd (clash (cc))
-      go (ringed a c) e = absurd (clash (cc))
-      go (listed {h} a c) e =
-          let n = walk-near trace by (a .walked) in
-          let q : countOf h ≡ K = cc in
-          (h, a, no-ring n c, subst (λ k. OrderList h k (listOf h)) q (the-list n c))
+      go (in-order a c) e z = absurd (clash (cc))
 
   -- where the call is accepted and there is no ring, it gives that order
   pub orders : {h : History} → Accepted trace table list h → ¬ Ring (Before Touches h)
@@ -127,6 +112,21 @@ module _ (trace table list : List ℕ) (by : Bytes trace) where
       (countOf h, ap (λ (c : Call). c .says) e, rw e (the-list n c)))
       (λ c. absurd (r (a-ring n c))) (which (allListed h))
 
+  -- K tickets are ordered exactly if the call is accepted and its list is the order list of h, of K tickets
+  pub listed : (K : ℕ) → (orderOf trace table list .says ≡ ordered K) ↔ ((h : History) × Accepted trace table list h × OrderList h K (orderOf trace table list .list))
+  listed K = (there (went trace table list), back)
+    where
+      there : {c : Call} → Went trace table list c → c .says ≡ ordered K → (h : History) × Accepted trace table list h × OrderList h K (c .list)
+      there (wrong n) e = absurd (clash (cc))
+      there (long f l) e = absurd (clash (cc))
+      there (stopped f l w) e = absurd (clash (cc))
+      there (ringed a c) e = absurd (clash (cc))
+      there (in-order {h} a c) e =
+          let q : countOf h ≡ K = cc in (h, a, subst (λ k. OrderList h k (listOf h)) q (the-list (walk-near trace by (a .walked)) c))
+
+      back : (h : History) × Accepted trace table list h × OrderList h K (orderOf trace table list .list) → orderOf trace table list .says ≡ ordered K
+      back (h, a, l) = let o = orders a (list-no-ring l before-src) in o .1 ∙ ap ordered (one-list (o .2) l .0)
+
   -- a refusal is given exactly when its cause is there
   pub causes : (k at : ℕ) → (orderOf trace table list .says ≡ refused k at) ↔ OrderCause trace table list k at
   causes k at = (there (went trace table list), back)
@@ -138,7 +138,7 @@ module _ (trace table list : List ℕ) (by : Bytes trace) where
       there (ringed a c) e =
           let w = walk-whole by (a .walked) in
           subst₂ (OrderCause trace table list) (cc) (cc) (ring (a .fit) (a .short) (w .1) (rw (w .2) at (a-ring (walk-near trace by (a .walked)) c)))
-      there (listed a c) e = absurd (clash (cc))
+      there (in-order a c) e = absurd (clash (cc))
 
       back : {k at : ℕ} → OrderCause trace table list k at → orderOf trace table list .says ≡ refused k at
       back (wrong-length n) = rw (order-wrong trace n)
@@ -148,11 +148,15 @@ module _ (trace table list : List ℕ) (by : Bytes trace) where
       back (far-ticket f l b q t) = rw (order-walks trace f l, walk-begins b (far q t))
       back (ring {es = es} f l b r) = ring-exactly .1 (reverse es, record { fit = f; short = l; walked = walk-begins b (done refl) }, r)
 
--- ---- the list that 01 describes
+-- ---- the order list
 
 -- it is the only one, and so is its K
 pub one-order-list : {h : History} {K K′ : ℕ} {xs ys : List ℕ} → OrderList h K xs → OrderList h K′ ys → (K ≡ K′) × (xs ≡ ys)
 one-order-list = one-list
+
+-- where there is one the befores close no ring
+pub order-no-ring : {h : History} {K : ℕ} {xs : List ℕ} → OrderList h K xs → ¬ Ring (Before Touches h)
+order-no-ring l = list-no-ring l before-src
 
 -- no ticket stands twice among its K places
 pub each-once : {h : History} {K : ℕ} {xs : List ℕ} → OrderList h K xs → (p q : ℕ) → p < q → q < K → getD xs p 0 ≢ getD xs q 0
@@ -173,7 +177,7 @@ K-counts {h} n l b t =
 
 -- ---- spelled events
 
--- events from 1 to 256 tickets, spelled in at most 65,536 bytes, whose befores close no ring, are ordered
+-- near events, spelled in at most 65,536 bytes, whose befores close no ring, are ordered: no refusal is given
 pub spelled-order : {es : List Event} {table list : List ℕ} → Near es → Fit table list → length (spellAll es) ≤ longest → ¬ Ring (Before Touches (reverse es))
     → (K : ℕ) × (orderOf (spellAll es) table list .says ≡ ordered K) × OrderList (reverse es) K (orderOf (spellAll es) table list .list)
 spelled-order {es} {table} {list} n f l r = orders (spellAll es) table list (spelled-bytes n) (record { fit = f; short = l; walked = walk-spelled n }) r

@@ -1,8 +1,8 @@
 -- What holds in a lawful history.
 use Prim.Native.Nat.{ℕ}
-use mathlib.Core.Path.{_≡_, refl, subst}
+use mathlib.Core.Path.{refl, subst}
 use mathlib.Core.Logic.{_≢_, inl, inr, ⊎-elim}
-use mathlib.Core.List.{_∷_}
+use mathlib.Core.List.{_∷_, List·Memᴰ, List·Memᴰ·head, List·Memᴰ·tail}
 use Rattle.trace.specs.declared.Event.{Event}
 use Rattle.trace.specs.declared.Event.the-variants.{Started, Granted, Touched, Released, Finished}
 use Rattle.trace.specs.Causes.{ticketOf}
@@ -72,13 +72,13 @@ latest {a} {b} {r} (and l s) d g f (ago p) (closing z q) =
     absurd (⊎-elim (λ x. m .unreleased (first-of x)) (λ x. g (first-of x)) (s .one a b r d (m .live) (had-live (and l s) (ago p) f) (now q) (ago p)))
 
 -- whoever has an event has started
-pub event-started : {h : History} {e : Event} → Lawful h → Some (λ x. x ≡ e) h → Some (Starts (ticketOf e)) h
-event-started {e = e} (and {e = d} {h = h} l s) (now p) = go d (s .allowed) p
+pub event-started : {h : History} {e : Event} → Lawful h → List·Memᴰ e h → Some (Starts (ticketOf e)) h
+event-started (and {e = d} {h = h} l s) (List·Memᴰ·head p) = rw p (go d (s .allowed))
   where
-    go : (d : Event) → Allowed h d → d ≡ e → Some (Starts (ticketOf e)) (d ∷ h)
-    go (Started t) a q = now (subst (λ x. Started t ≡ Started (ticketOf x)) q refl)
-    go (Granted t r) a q = ago (subst (λ x. Some (Starts (ticketOf x)) h) q (a .live .started))
-    go (Touched t r) a q = ago (subst (λ x. Some (Starts (ticketOf x)) h) q (a .live .started))
-    go (Released t r) a q = ago (subst (λ x. Some (Starts (ticketOf x)) h) q (a .live .started))
-    go (Finished t) a q = ago (subst (λ x. Some (Starts (ticketOf x)) h) q (a .started))
-event-started (and l s) (ago p) = ago (event-started l p)
+    go : (d : Event) → Allowed h d → Some (Starts (ticketOf d)) (d ∷ h)
+    go (Started t) a = now refl
+    go (Granted t r) a = ago (a .live .started)
+    go (Touched t r) a = ago (a .live .started)
+    go (Released t r) a = ago (a .live .started)
+    go (Finished t) a = ago (a .started)
+event-started (and l s) (List·Memᴰ·tail m) = ago (event-started l m)

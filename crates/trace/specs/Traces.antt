@@ -1,8 +1,8 @@
 -- A trace of whole events, cut at any byte, reads as the events before the cut, then end if the cut is between events, else 20.
-use mathlib.Core.Path.{_≡_, ap, refl, subst, _∙_}
+use mathlib.Core.Path.{_≡_, ap, refl, _∙_}
 use mathlib.Core.Logic.{⊎-elim}
 use Prim.Native.Nat.{ℕ, zero, suc, _+_, _-_, _<_, _≤_}
-use mathlib.Core.List.{List, [], _∷_, _++_, reverseAux}
+use mathlib.Core.List.{List, [], _∷_, _++_, reverseAux, List·Memᴰ, List·Memᴰ·head, List·Memᴰ·tail}
 use mathlib.Core.Bool.{true}
 use lib.ListN.{length, take, drop}
 use lib.Seq.{take-nil, take-append-le, take-append-add, drop-append-seam}
@@ -11,7 +11,6 @@ use native.Mathlib.Omega.{arith}
 use borrow.Author.Tests.{lt-ltb, le-ltb}
 use Rattle.words.specs.Tests.{pick, below}
 use Rattle.trace.specs.Answers.{ReadingSaid, event, end, no-event}
-use Rattle.trace.specs.History.{Some, now, ago}
 use Rattle.trace.specs.Events.{spell, fair, readAt}
 use Rattle.trace.specs.EventLaws.{event-back, event-cut}
 use Rattle.trace.specs.declared.Event.{Event}
@@ -58,9 +57,9 @@ cutAt (suc k) (e ∷ es) = pick (ltb (suc k) (length (spell e))) (stop (no-event
 -- ---- laws
 
 -- each event of a fair history is fair, and so is the history turned round
-pub fair-each : {e : Event} {h : List Event} → AllFair h → Some (λ x. x ≡ e) h → fair e ≡ true
-fair-each (more f a) (now p) = subst (λ x. fair x ≡ true) p f
-fair-each (more f a) (ago s) = fair-each a s
+pub fair-each : {e : Event} {h : List Event} → AllFair h → List·Memᴰ e h → fair e ≡ true
+fair-each (more f a) (List·Memᴰ·head p) = rw p f
+fair-each (more f a) (List·Memᴰ·tail m) = fair-each a m
 
 pub fair-onto : {es h : List Event} → AllFair es → AllFair h → AllFair (reverseAux es h)
 fair-onto none m = m
