@@ -48,6 +48,7 @@ fitting n m = eqb n m && (not (eqb n 0) && leb n records)
 
 -- ---- what a call says and leaves
 
+-- what is said to a request, and the state that is left
 pub record Outcome : Type 0 where
   pub says : Said
   pub left : State
@@ -59,6 +60,7 @@ outcome x st = record { says = x; left = st }
 abbrev pub after : Reply → List ℕ → List ℕ → Outcome
 after r h l = outcome (said (r .answer)) (state h l (r .desk))
 
+-- what is said to a clearing, and the state that is left
 pub record ClearOutcome : Type 0 where
   pub says : ClearSaid
   pub left : State
@@ -70,14 +72,17 @@ clearOutcome x st = record { says = x; left = st }
 abbrev pub opened : Opened → List ℕ → List ℕ → ClearOutcome
 opened r h l = clearOutcome (clearSaid (r .answer)) (state h l (r .desk))
 
--- ---- clearing: both tables are filled with zeros, and the record is free; refused, the record is free too
+-- ---- clearing
+
+-- both tables are filled with zeros, and the record is free; refused, the tables stay, and the record is free too
 unfoldable pub clearing : ℕ → List ℕ → List ℕ → ClearOutcome
 clearing n h l =
     pick (not (fitting (length h) (length l))) (clearOutcome (uncleared 1) (state h l (freeDesk n)))
     (clearOutcome cleared (state (map (λ w. 0) h) (map (λ w. 0) l) (freeDesk n)))
 
--- ---- BEGIN seat: the ticket is the number begun plus 1; the seat becomes live, no lock, wake 0; the count rises
+-- ---- BEGIN seat
 
+-- the ticket is the number begun plus 1; the seat becomes live, no lock, wake 0; the count rises
 abbrev pub begunAt : Desk → ℕ → Desk
 begunAt d s =
     record {
@@ -85,6 +90,7 @@ begunAt d s =
       begun = d .begun + 1;
     }
 
+-- refused on a live seat, or with 65,535 or more begun; else started, with the ticket
 unfoldable pub beginStep : State → ℕ → Outcome
 beginStep st s =
     pick (seatAt (st .desk) s .live) (outcome (refused 4) st)
@@ -130,6 +136,7 @@ grant st s a =
     state (setBit (st .held) s a) (st .released)
     (seatSet (st .desk) s (withLock (seatAt (st .desk) s) (getD (st .released) a 0)))
 
+-- LOCK
 unfoldable pub lockStep : State → ℕ → ℕ → Outcome
 lockStep st s a = about st s a (lockRule s) (outcome granted (grant st s a))
 
@@ -137,13 +144,15 @@ lockStep st s a = about st s a (lockRule s) (outcome granted (grant st s a))
 unfoldable pub holdRule : ℕ → ℕ → ℕ → Seat → Rule
 holdRule s h r v = pick (not (has h s)) (told (refused 7)) (pick (has r s) (told (refused 8)) allowed)
 
+-- TOUCH: answer touched, nothing changed
 unfoldable pub touchStep : State → ℕ → ℕ → Outcome
 touchStep st s a = about st s a (holdRule s) (outcome touched st)
 
+-- RELEASE: the released bit is set
 unfoldable pub releaseStep : State → ℕ → ℕ → Outcome
 releaseStep st s a = about st s a (holdRule s) (outcome released (state (st .held) (setBit (st .released) s a) (st .desk)))
 
--- ---- FINISH seat: that bit is cleared in every word of both tables and in every seat's wake; the seat becomes free
+-- ---- FINISH seat
 
 -- a table with seat s's bit clear in every word
 abbrev pub clearBit : List ℕ → ℕ → List ℕ
@@ -153,15 +162,17 @@ clearBit t s = map (λ w. without w s) t
 abbrev pub leftWake : ℕ → Seat → Seat
 leftWake s v = record { ticket = v .ticket; wake = without (v .wake) s; live = v .live; locked = v .locked }
 
+-- seat s's bit is cleared in every word of both tables and in every seat's wake, and the seat becomes free
 unfoldable pub gone : State → ℕ → State
 gone st s =
     state (clearBit (st .held) s) (clearBit (st .released) s)
     (record { seats = set (map (leftWake s) (st .desk .seats)) s freeSeat; begun = st .desk .begun })
 
+-- refused on a free seat; else finished
 unfoldable pub finishStep : State → ℕ → Outcome
 finishStep st s = pick (not (seatAt (st .desk) s .live)) (outcome (refused 5) st) (outcome finished (gone st s))
 
--- ---- one request: refusals are tested in table order
+-- ---- one request
 
 -- the seat of a request
 abbrev pub seatOf : Request → ℕ
@@ -171,6 +182,7 @@ seatOf (Touch s a) = s
 seatOf (Release s a) = s
 seatOf (Finish s) = s
 
+-- a request by its kind
 abbrev pub kind : State → Request → Outcome
 kind st (Begin s) = beginStep st s
 kind st (Lock s a) = lockStep st s a
@@ -178,6 +190,7 @@ kind st (Touch s a) = touchStep st s a
 kind st (Release s a) = releaseStep st s a
 kind st (Finish s) = finishStep st s
 
+-- refusals are tested in table order: 1 and 2 are those of every kind
 unfoldable pub step : ℕ → State → Request → Outcome
 step n st q =
     pick (not (fitting (length (st .held)) (length (st .released)))) (outcome (refused 1) st)

@@ -7,7 +7,7 @@ ghost use lib.Dec.{eqb};
 ghost use lib.ListN.{length};
 ghost use Rattle.desk.specs.Limits.{seats};
 ghost use Rattle.desk.specs.Answers.{number, said, rule};
-ghost use Rattle.desk.specs.Step.{state, outcome, after, opened, freeSeat, seatAt, seatSet, fitting, clearing, seatOf, beginStep, setBit, lockRule, withLock, lockStep, holdRule, touchStep, releaseStep, clearBit, leftWake, finishStep, step};
+ghost use Rattle.desk.specs.Step.{state, after, opened, freeSeat, fitting, clearing, seatOf, beginStep, setBit, lockRule, withLock, holdRule, clearBit, leftWake, finishStep, step};
 ghost use Rattle.desk.specs.Seats.{Locks, seatedAs, Touches, Releases};
 
 // How many seats a desk has. It stands once more, in specs/Limits.antt.
