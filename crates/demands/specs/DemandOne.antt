@@ -17,7 +17,8 @@ use Rattle.desk.specs.declared.Request.{Request}
 use Rattle.desk.specs.Limits.{seats}
 use Rattle.desk.specs.Answers.{refused, uncleared}
 use Rattle.desk.specs.Step.{State, clearing, step}
-use Rattle.desk.specs.Causes.{BadTables, Cause, refused-exactly, clearing-refused-exactly}
+use Rattle.desk.specs.Causes.{BadTables, Cause}
+use Rattle.desk.specs.CauseLaws.{refused-exactly, clearing-refused-exactly}
 use Rattle.desk.specs.Promises.{quiet, quiet-keeps, clearing-keeps}
 use Rattle.order.specs.Answers.{refused as unordered}
 use Rattle.order.specs.Causes.{OrderCause}
