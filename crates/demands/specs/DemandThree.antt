@@ -12,7 +12,7 @@ use Rattle.trace.specs.Events.{spell, Wrote, writeAt}
 use Rattle.trace.specs.EventLaws.{write-done}
 use Rattle.trace.specs.Causes.{ticketOf}
 use Rattle.trace.specs.History.{History, Touches, Accesses, Before}
-use Rattle.trace.specs.Traces.{none, readAll, spellAll, fair-each, fair-onto, trace-back}
+use Rattle.trace.specs.Traces.{none, readAll, fair-each, fair-onto, trace-back}
 use Rattle.desk.specs.declared.Request.{Request}
 use Rattle.desk.specs.Limits.{seats}
 use Rattle.desk.specs.Answers.{cleared}
@@ -28,7 +28,7 @@ use Rattle.order.specs.Causes.{Near, Fit}
 use Rattle.order.specs.Order.{OrderList, orderOf}
 use Rattle.order.specs.WalkLaws.{near-fair, near-onto}
 use Rattle.order.specs.Theorems.{spelled-order, each-once, befores-first}
-use Rattle.demands.specs.Run.{Moment, run}
+use Rattle.demands.specs.Run.{Moment, run, traceOf}
 use Rattle.demands.specs.Keeps.{Good}
 use Rattle.demands.specs.Runs.{good-run}
 
@@ -59,7 +59,7 @@ module _ (h l : List ℕ) (fits : clearing seats h l .says ≡ cleared) (qs : Li
 
   -- the run's trace
   abbrev pub bytes : List ℕ
-  bytes = spellAll (reverse past)
+  bytes = traceOf (run seats h l qs)
 
   G : Good seats (run seats h l qs)
   G = good-run seats h l qs fits

@@ -1,9 +1,10 @@
 -- A run of the desk: the state after some requests from a clearing on, and the history that its answers call for.
 use Prim.Native.Nat.{ℕ}
-use mathlib.Core.List.{List, [], _∷_, _++_}
+use mathlib.Core.List.{List, [], _∷_, _++_, reverse}
 use Rattle.trace.specs.declared.Event.{Event}
 use Rattle.trace.specs.declared.Event.the-variants.{Started, Granted, Touched, Released, Finished}
 use Rattle.trace.specs.History.{History}
+use Rattle.trace.specs.Traces.{spellAll}
 use Rattle.desk.specs.declared.Request.{Request}
 use Rattle.desk.specs.declared.Request.the-variants.{Begin, Lock, Touch, Release, Finish}
 use Rattle.desk.specs.Answers.{Said, started, wait, refused, granted, held, touched, released, finished}
@@ -49,3 +50,7 @@ afterAll n m (q ∷ qs) = afterAll n (next n m q) qs
 -- tables h and l are cleared, for n seats, and then some requests are sent in any sequence
 abbrev pub run : ℕ → List ℕ → List ℕ → List Request → Moment
 run n h l qs = afterAll n (record { state = clearing n h l .left; history = [] }) qs
+
+-- the trace of what happened: its events spelled, oldest first
+abbrev pub traceOf : Moment → List ℕ
+traceOf m = spellAll (reverse (m .history))
