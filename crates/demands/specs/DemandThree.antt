@@ -59,7 +59,7 @@ module _ (h l : List ℕ) (fits : clearing seats h l .says ≡ cleared) (qs : Li
 
   -- the run's trace
   abbrev pub bytes : List ℕ
-  bytes = traceOf (run seats h l qs)
+  bytes = traceOf past
 
   G : Good seats (run seats h l qs)
   G = good-run seats h l qs fits

@@ -51,6 +51,6 @@ afterAll n m (q ∷ qs) = afterAll n (next n m q) qs
 abbrev pub run : ℕ → List ℕ → List ℕ → List Request → Moment
 run n h l qs = afterAll n (record { state = clearing n h l .left; history = [] }) qs
 
--- the trace of what happened: its events spelled, oldest first
-abbrev pub traceOf : Moment → List ℕ
-traceOf m = spellAll (reverse (m .history))
+-- the trace of a history: its events spelled, oldest first
+abbrev pub traceOf : History → List ℕ
+traceOf h = spellAll (reverse h)
