@@ -163,7 +163,7 @@ fn orders() {
 // One byte more than the limits of a request file and of a trace.
 const FILE_OVER: usize = clerk::FILE_BYTES + 1;
 
-const TRACE_OVER: usize = 65537;
+const TRACE_OVER: usize = order::LONGEST + 1;
 
 // The limits of size, on both sides, and more than 256 changes.
 fn sizes() {

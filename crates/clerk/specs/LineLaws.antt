@@ -6,15 +6,11 @@ use lib.ListN.{length, take, getD, replicate}
 use lib.Seq.{take-suc}
 use native.Mathlib.Numerals.{add-one}
 use native.Mathlib.Omega.{arith}
-use Rattle.words.specs.Tests.{clash}
 use Rattle.order.specs.Limits.{tickets, tableWords}
 use Rattle.order.specs.Answers.{OrderSaid, ordered, refused, orderSaid, Call, called}
 use Rattle.order.specs.declared.Answer.{Answer}
-use Rattle.order.specs.Counting.{count}
-use Rattle.order.specs.Befores.{touches, someTouch}
-use Rattle.order.specs.CountingLaws.{count-le}
 use Rattle.order.specs.Order.{orderOf}
-use Rattle.order.specs.OrderLaws.{Went, wrong, long, stopped, ringed, in-order, went}
+use Rattle.order.specs.Theorems.{ordered-few}
 use Rattle.text.specs.Places.{Placed, puts}
 use Rattle.text.specs.PlaceLaws.{puts-then}
 use Rattle.text.specs.Lines.{numeral, lineOf}
@@ -55,18 +51,6 @@ listed-puts k list p q d e = puts-then (lineOf orderWord k) (ticketLines (take k
 
 -- ---- how many tickets
 
--- an order call lists at most 256 tickets
-pub ordered-few : (trace table list : List ℕ) {k : ℕ} → orderOf trace table list .says ≡ ordered k → k ≤ tickets
-ordered-few trace table list {k} = go (went trace table list)
-  where
-    go : {c : Call} → Went trace table list c → c .says ≡ ordered k → k ≤ tickets
-    go (wrong n) e = absurd (clash (cc))
-    go (long f l) e = absurd (clash (cc))
-    go (stopped f l w) e = absurd (clash (cc))
-    go (ringed a c) e = absurd (clash (cc))
-    go (in-order {h} a c) e = let k-is : count tickets (someTouch (touches h)) ≡ k = cc in omega (arith, count-le tickets (someTouch (touches h)))
-
--- so the order that it says lies within its list
 pub order-within : (x : Answer) (table′ list′ trace table list : List ℕ) → called x table′ list′ ≡ orderOf trace table list → length list′ ≡ tickets → Within (orderSaid x) list′
 order-within x table′ list′ trace table list e n = go (orderSaid x) (ap (λ (c : Call). c .says) (sym e))
   where

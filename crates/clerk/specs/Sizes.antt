@@ -23,7 +23,7 @@ use Rattle.clerk.specs.Answers.{AskedSaid, request, end, no-request}
 use Rattle.clerk.specs.Requests.{readRequest}
 use Rattle.clerk.specs.RequestLaws.{request-here}
 use Rattle.clerk.specs.Lines.{atWord, orderWord, refusedAt, line, lines, ticketLines, listed, orderLines, orderText}
-use Rattle.clerk.specs.LineLaws.{ordered-few}
+use Rattle.order.specs.Theorems.{ordered-few}
 use Rattle.clerk.specs.RoomLaws.{called-long}
 use Rattle.clerk.specs.Files.{Ending, all, fault, requestsBy, requestsFrom, requestsOf, after, answers, closing, deskText}
 use Rattle.demands.specs.Run.{traceOf}

@@ -8,7 +8,7 @@ ghost use Rattle.trace.specs.Numbers.{readNumber};
 ghost use Rattle.desk.specs.declared.Request.{Request};
 ghost use Rattle.desk.specs.Limits.{seats};
 ghost use Rattle.desk.specs.Answers.{said};
-ghost use Rattle.desk.specs.Step.{state, seatAt, seatOf};
+ghost use Rattle.desk.specs.Step.{state, seatAt};
 ghost use Rattle.order.specs.Answers.{orderSaid};
 ghost use Rattle.demands.specs.Run.{called, recordOf};
 ghost use Rattle.text.specs.Places.{placed, puts};
@@ -42,11 +42,6 @@ pub const ORDER_TEXT: usize = 5403;
 
 // How many bytes the desk program prints at most: 8,192 lines of 29, and an order.
 pub const DESK_TEXT: usize = 242971;
-
-// How many words the order call's table has, and how many places its list.
-const TABLE: usize = 2048;
-
-const LIST: usize = 256;
 
 // What stands at the front of the rest of a request file.
 pub enum Asked {
@@ -300,8 +295,8 @@ fn put_called(out: &mut [u8], at: usize, said: Order, list: &[u16]) -> usize
 fn put_order(out: &mut [u8], at: usize, trace: &[u8]) -> usize
     ensures { λ r. ⌜ placed (now (out .exit)) r ≡ puts (orderText (now (trace .entry))) (placed (now (out .entry)) at) ⌝ }
 {
-    let mut table = [0u32; TABLE];
-    let mut list = [0u16; LIST];
+    let mut table = [0u32; order::TABLE];
+    let mut list = [0u16; order::TICKETS];
     let said = order::order_of(trace, &mut table, &mut list);
     put_called(out, at, said, &list)
 }
@@ -359,19 +354,6 @@ fn note_answer(room: &mut [u8], used: usize, answer: Answer, t: u32, r: u32) -> 
     }
 }
 
-// The seat that a request is for.
-fn seat_of(q: Request) -> u32
-    ensures { λ r. ⌜ r ≡ seatOf q ⌝ }
-{
-    match q {
-        Request::Begin { seat } => seat,
-        Request::Lock { seat, record: _ } => seat,
-        Request::Touch { seat, record: _ } => seat,
-        Request::Release { seat, record: _ } => seat,
-        Request::Finish { seat } => seat,
-    }
-}
-
 // The record that a request asks for, or 0 where it has none.
 fn record_of(q: Request) -> u32
     ensures { λ r. ⌜ r ≡ recordOf q ⌝ }
@@ -413,7 +395,7 @@ fn turn(
     ensures { λ r. ⌜ Turned q (now (held .entry)) (now (released .entry)) p (now (room .entry)) (now (out .entry)) (now (held .exit)) (now (released .exit)) r (now (room .exit)) (now (out .exit)) ⌝ }
 {
     let d = p.desk;
-    let ticket = ticket_at(d, seat_of(q));
+    let ticket = ticket_at(d, desk::seat_number(q));
     let reply = desk::judge(held, released, d, q);
     let answer = reply.answer;
     let used = note_answer(room, p.used, answer, ticket, record_of(q));

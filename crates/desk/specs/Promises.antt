@@ -8,7 +8,7 @@ use lib.ListN.{length}
 use Rattle.words.specs.Tests.{pick, either, clash}
 use Rattle.words.specs.Promises.{one-value}
 use Rattle.desk.specs.Answers.{number, Said, started, wait, refused, granted, held, touched, released, finished, said, ClearSaid, cleared, uncleared, clearSaid, Rule, allowed, told}
-use Rattle.desk.specs.Step.{State, Outcome, outcome, after, ClearOutcome, opened, freeDesk, fitting, clearing, ruled, about, beginStep, lockStep, touchStep, releaseStep, finishStep, kind, step}
+use Rattle.desk.specs.Step.{State, Outcome, outcome, after, ClearOutcome, opened, seatOf, freeDesk, fitting, clearing, ruled, about, beginStep, lockStep, touchStep, releaseStep, finishStep, kind, step}
 use Rattle.desk.specs.declared.Seat.{Seat}
 use Rattle.desk.specs.declared.Desk.{Desk}
 use Rattle.desk.specs.declared.Reply.{Reply}
@@ -87,6 +87,10 @@ clear-said-once a b e = sym (cleared-back-said a) ∙ ap cleared-back e ∙ clea
 -- `refusal_number`: one number
 pub one-number : (r : Refusal) {k k′ : ℕ} → k ≡ number r → k′ ≡ number r → k ≡ k′
 one-number r = one-value
+
+-- `seat_number`: one seat
+pub one-seat : (q : Request) {s s′ : ℕ} → s ≡ seatOf q → s′ ≡ seatOf q → s ≡ s′
+one-seat q = one-value
 
 -- `judge`: one reply and one pair of tables
 pub one-reply : (r r′ : Reply) (h h′ l l′ : List ℕ) (o : Outcome) → after r h l ≡ o → after r′ h′ l′ ≡ o → (r ≡ r′) × (h ≡ h′) × (l ≡ l′)

@@ -167,7 +167,7 @@ pub fn clear(held: &mut [u32], released: &mut [u32]) -> Opened
 }
 
 // The seat that a request is for.
-fn seat_number(request: Request) -> u32
+pub fn seat_number(request: Request) -> u32
     ensures { λ r. ⌜ r ≡ seatOf request ⌝ }
 {
     match request {

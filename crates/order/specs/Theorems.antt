@@ -19,7 +19,7 @@ use Rattle.trace.specs.declared.Event.{Event}
 use Rattle.order.specs.Limits.{tickets, longest}
 use Rattle.order.specs.Answers.{ordered, refused, Call}
 use Rattle.order.specs.Counting.{In, count}
-use Rattle.order.specs.CountingLaws.{count-ext}
+use Rattle.order.specs.CountingLaws.{count-ext, count-le}
 use Rattle.order.specs.ListingLaws.{once, forward, list-no-ring, one-list}
 use Rattle.order.specs.Befores.{HasTouch, touches, someTouch, before}
 use Rattle.order.specs.BeforeLaws.{before-iff, some-touch-iff, before-src}
@@ -148,6 +148,18 @@ module _ (trace table list : List ℕ) (by : Bytes trace) where
       back (far-ticket f l b q t) = rw (order-walks trace f l, walk-begins b (far q t))
       back (ring {es = es} f l b r) = ring-exactly .1 (reverse es, record { fit = f; short = l; walked = walk-begins b (done refl) }, r)
 
+-- an order has at most 256 tickets
+pub ordered-few : (trace table list : List ℕ) {k : ℕ} → orderOf trace table list .says ≡ ordered k → k ≤ tickets
+ordered-few trace table list {k} = go (went trace table list)
+  where
+    go : {c : Call} → Went trace table list c → c .says ≡ ordered k → k ≤ tickets
+    go (wrong n) e = absurd (clash (cc))
+    go (long f l) e = absurd (clash (cc))
+    go (stopped f l w) e = absurd (clash (cc))
+    go (ringed a c) e = absurd (clash (cc))
+    go (in-order {h} a c) e = let k-is : countOf h ≡ k = cc in omega (arith, count-le tickets (someTouch (touches h)))
+
+-- so the order that it says lies within its list
 -- ---- the order list
 
 -- it is the only one, and so is its K

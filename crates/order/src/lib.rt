@@ -18,13 +18,13 @@ ghost use Rattle.order.specs.Order.{tableBy, settled, orderBy, orderOf};
 ghost use Rattle.order.specs.Scratch.{hasTicket, hasBefore, touchersLong, Rows, Takes, readyIn, nextIn, Filled, Turns};
 
 // How many tickets the order takes, and places the list has. It stands once more, in specs/Limits.antt, as do the next two.
-const TICKETS: usize = 256;
+pub const TICKETS: usize = 256;
 
 // How many words the table has.
-const TABLE: usize = 2048;
+pub const TABLE: usize = 2048;
 
 // How many bytes the trace may have.
-const LONGEST: usize = 65536;
+pub const LONGEST: usize = 65536;
 
 // How many words a row has: a bit for each ticket.
 const ROW: usize = 8;

@@ -3,7 +3,7 @@ use libc::STDIN_FILENO;
 use libc::STDOUT_FILENO;
 
 // One byte more than a trace may have, so that a longer one is seen.
-const HELD: usize = 65537;
+const HELD: usize = order::LONGEST + 1;
 
 fn main() {
     let mut trace = [0u8; HELD];

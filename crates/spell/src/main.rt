@@ -3,9 +3,15 @@ use libc::STDIN_FILENO;
 use libc::STDOUT_FILENO;
 use wording::Spelled;
 
+// How many bytes of words are taken; a room as long always suffices.
+const ROOM: usize = 65536;
+
+// One byte more, so that a longer text is seen.
+const HELD: usize = ROOM + 1;
+
 fn main() {
-    let mut words = [0u8; 65537];
-    let mut room = [0u8; 65536];
+    let mut words = [0u8; HELD];
+    let mut room = [0u8; ROOM];
     let n = io::read_full(STDIN_FILENO, &mut words);
     let got = wording::spell(&words[..n], &mut room);
     if let Spelled::Written { length } = got {

@@ -8,11 +8,12 @@ use Rattle.trace.specs.Answers.{ReadingSaid, event, end, no-event}
 use Rattle.trace.specs.Events.{readAt}
 use Rattle.trace.specs.declared.Event.{Event}
 use Rattle.trace.specs.declared.Event.the-variants.{Started, Granted, Touched, Released, Finished}
+use Rattle.order.specs.Limits.{longest}
 use Rattle.text.specs.Lines.{numeral, lineOf}
 
--- how many bytes a trace that is told may have
+-- how many bytes a trace that is told may have: the order call's limit
 abbrev pub traceBytes : ℕ
-traceBytes = 65536
+traceBytes = longest
 
 -- how many bytes always suffice for its text: eleven for each of the trace's and 38 for a refusal (`tell-whole` in TellingLaws)
 abbrev pub textBytes : ℕ

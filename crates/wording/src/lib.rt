@@ -17,11 +17,8 @@ use desk::Request;
 use trace::Event;
 use trace::Reading;
 
-// How many bytes a trace that is told may have. It stands once more, in specs/Telling.antt.
-pub const TRACE: usize = 65536;
-
-// What a word that is no number counts as: one over trace's limit. It stands once more, in specs/Requests.antt.
-const BEYOND: u32 = 65536;
+// What a word that is no number counts as: one over trace's limit.
+const BEYOND: u32 = trace::LIMIT + 1;
 
 // What a line of words says.
 pub enum Line {
@@ -44,7 +41,7 @@ pub fn tell(trace: &[u8], text: &mut [u8]) -> usize
     ensures { λ r. ⌜ placed (now (text .exit)) r ≡ puts (told (now (trace .entry))) (placed (now (text .entry)) 0) ⌝ }
     ensures { λ r. ⌜ r ≤ length (now (text .exit)) ⌝ }
 {
-    if trace.len() <= TRACE {
+    if trace.len() <= order::LONGEST {
         return tell_events(trace, text);
     }
     put_refused(text, 0, 26, 0)

@@ -4,8 +4,8 @@ use borrow.Author.Needs.{needs}
 use Rattle.clerk.proofs.turn.Statement.{statement}
 use Rattle.clerk.proofs.turn.Tie as tie
 
-seat-of-requires : tie.Need-seat-of-requires
-seat-of-requires c κs = search needs
+seat-number-requires : tie.Need-seat-number-requires
+seat-number-requires c κs = search needs
 
 ticket-at-requires : tie.Need-ticket-at-requires
 ticket-at-requires c κs = search needs
@@ -41,7 +41,7 @@ pub turn-spec : {M : Type 1} → statement M
 turn-spec =
     tie.close
     (tie.spec
-    seat-of-requires
+    seat-number-requires
     ticket-at-requires
     judge-requires
     record-of-requires
