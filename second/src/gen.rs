@@ -1,0 +1,65 @@
+//! The generator: request files and traces from a seed, each file by its own number.
+
+pub mod damage;
+pub mod desk_files;
+pub mod order_files;
+pub mod rng;
+
+use rng::Rng;
+
+/// A file as its requests or events, so that damage can fall between them too.
+pub type Pieces = Vec<Vec<u8>>;
+
+/// Request file number `index` of a seed.
+pub fn desk_file(seed: u64, index: u64) -> Vec<u8> {
+    let mut rng = Rng::of_file(seed, index);
+    if rng.chance(4) {
+        return rng.some_bytes(64);
+    }
+    let pieces = desk_files::pieces(&mut rng);
+    if rng.chance(30) {
+        return damage::damaged(&mut rng, pieces);
+    }
+    pieces.concat()
+}
+
+/// Trace number `index` of a seed.
+pub fn order_file(seed: u64, index: u64) -> Vec<u8> {
+    let mut rng = Rng::of_file(seed, index);
+    if rng.chance(4) {
+        return rng.some_bytes(64);
+    }
+    let pieces = order_files::pieces(&mut rng);
+    if rng.chance(25) {
+        return damage::damaged(&mut rng, pieces);
+    }
+    pieces.concat()
+}
+
+/// A request or event that has a spelling: kind, then its numbers, each at most 65,535.
+pub fn piece(kind: u8, numbers: &[u32]) -> Vec<u8> {
+    let mut bytes = vec![kind];
+    for &number in numbers {
+        bytes.extend(crate::number::write_number(number));
+    }
+    bytes
+}
+
+/// The bytes of all pieces.
+pub fn length(pieces: &Pieces) -> usize {
+    pieces.iter().map(Vec::len).sum()
+}
+
+/// Pads with pieces of two and three bytes, none a touch, to exactly `limit`; room must not be 1.
+pub fn pad(pieces: &mut Pieces, limit: usize) {
+    let mut room = limit - length(pieces);
+    while room > 3 {
+        pieces.push(piece(5, &[1]));
+        room -= 2;
+    }
+    if room == 3 {
+        pieces.push(piece(2, &[1, 1]));
+    } else if room == 2 {
+        pieces.push(piece(5, &[1]));
+    }
+}

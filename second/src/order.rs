@@ -1,0 +1,108 @@
+//! The order: befores as a set of pairs, and the list of changes that they allow.
+
+use crate::event::{read_event, Event};
+use crate::Refusal;
+use std::collections::{BTreeMap, BTreeSet};
+
+/// The longest trace that is ordered.
+pub const LONGEST_TRACE: usize = 65_536;
+/// The highest ticket that is ordered, and the places in the list.
+pub const MOST_CHANGES: u32 = 256;
+/// The words in the table of befores.
+pub const TABLE_WORDS: usize = 2_048;
+
+/// Pairs (i, j): ticket i comes before ticket j.
+pub type Befores = BTreeSet<(u32, u32)>;
+
+/// A refusal and the first byte of the event that caused it, or 0.
+#[derive(Clone, Copy, Debug, PartialEq, Eq)]
+pub struct OrderRefusal {
+    pub number: Refusal,
+    pub offset: usize,
+}
+
+/// The touches of a trace from left to right, each a ticket and a record.
+pub fn touches(trace: &[u8]) -> Result<Vec<(u32, u32)>, OrderRefusal> {
+    let mut found = Vec::new();
+    let mut offset = 0;
+    loop {
+        match read_event(&trace[offset..]) {
+            Err(number) => return Err(OrderRefusal { number, offset }),
+            Ok(None) => return Ok(found),
+            Ok(Some((event, _))) if event.ticket() > MOST_CHANGES => {
+                return Err(OrderRefusal { number: 27, offset });
+            }
+            Ok(Some((event, length))) => {
+                if let Event::Touched { ticket, record } = event {
+                    found.push((ticket, record));
+                }
+                offset += length;
+            }
+        }
+    }
+}
+
+/// Every pair with a touch by the first earlier than a touch by the second of the same record.
+pub fn befores(touches: &[(u32, u32)]) -> Befores {
+    let mut pairs = Befores::new();
+    let mut earlier: BTreeMap<u32, BTreeSet<u32>> = BTreeMap::new();
+    for &(ticket, record) in touches {
+        let touchers = earlier.entry(record).or_default();
+        for &other in touchers.iter() {
+            if other != ticket {
+                pairs.insert((other, ticket));
+            }
+        }
+        touchers.insert(ticket);
+    }
+    pairs
+}
+
+/// The touching tickets in order, or `None` if the befores close a ring.
+pub fn list(touches: &[(u32, u32)], befores: &Befores) -> Option<Vec<u32>> {
+    let mut unlisted: BTreeSet<u32> = touches.iter().map(|&(ticket, _)| ticket).collect();
+    let mut listed = Vec::new();
+    while !unlisted.is_empty() {
+        // If none may stand, each has an unlisted one before it, and so there is a ring.
+        let lowest = lowest_that_may_stand(&unlisted, befores)?;
+        unlisted.remove(&lowest);
+        listed.push(lowest);
+    }
+    Some(listed)
+}
+
+/// The lowest unlisted ticket with no unlisted ticket before it.
+fn lowest_that_may_stand(unlisted: &BTreeSet<u32>, befores: &Befores) -> Option<u32> {
+    let free = |ticket: u32| !unlisted.iter().any(|&other| befores.contains(&(other, ticket)));
+    unlisted.iter().copied().find(|&ticket| free(ticket))
+}
+
+/// The order call: fills table and list and gives K, or a refusal.
+pub fn order(trace: &[u8], table: &mut [u32], places: &mut [u16]) -> Result<usize, OrderRefusal> {
+    if table.len() != TABLE_WORDS || places.len() != MOST_CHANGES as usize {
+        return Err(OrderRefusal { number: 25, offset: 0 });
+    }
+    if trace.len() > LONGEST_TRACE {
+        return Err(OrderRefusal { number: 26, offset: 0 });
+    }
+    let touches = touches(trace)?;
+    let befores = befores(&touches);
+    write_table(&befores, table);
+    places.fill(0);
+    let Some(tickets) = list(&touches, &befores) else {
+        return Err(OrderRefusal { number: 28, offset: 0 });
+    };
+    for (place, &ticket) in places.iter_mut().zip(&tickets) {
+        *place = ticket as u16;
+    }
+    Ok(tickets.len())
+}
+
+/// Sets exactly the bits of the pairs.
+fn write_table(befores: &Befores, table: &mut [u32]) {
+    table.fill(0);
+    for &(i, j) in befores {
+        let word = 8 * (i - 1) + (j - 1) / 32;
+        table[word as usize] |= 1 << ((j - 1) % 32);
+    }
+}

@@ -1,0 +1,99 @@
+//! The generator: the same files from a seed, and every answer and refusal reached.
+
+use second::gen::damage::spell;
+use second::gen::{desk_file, order_file};
+use second::{desk_text, order_text};
+use std::collections::BTreeSet;
+
+/// Lines without their numbers, except those of waits and refusals.
+fn kinds(texts: impl Iterator<Item = String>) -> BTreeSet<String> {
+    let mut found = BTreeSet::new();
+    for text in texts {
+        for line in text.lines() {
+            let words: Vec<&str> = line.split(' ').collect();
+            match words[..] {
+                ["refused", number, "at", _] => found.insert(format!("refused {number} at")),
+                ["started" | "order", _] => found.insert(words[0].to_string()),
+                [number] if number.parse::<u32>().is_ok() => found.insert("ticket".to_string()),
+                _ => found.insert(line.to_string()),
+            };
+        }
+    }
+    found
+}
+
+fn set(words: &[&str]) -> BTreeSet<String> {
+    words.iter().map(|word| word.to_string()).collect()
+}
+
+#[test]
+fn a_seed_gives_the_same_files_and_another_gives_others() {
+    for index in 0..50 {
+        assert_eq!(desk_file(7, index), desk_file(7, index));
+        assert_eq!(order_file(7, index), order_file(7, index));
+    }
+    assert!((0..50).any(|index| desk_file(7, index) != desk_file(8, index)));
+    assert!((0..50).any(|index| order_file(7, index) != order_file(7, index + 1)));
+}
+
+#[test]
+fn request_files_reach_every_line() {
+    // 1 and 6 cannot be reached: the tables fit, and a file is too short for 65,535 changes.
+    let expected = set(&[
+        "started",
+        "granted",
+        "held",
+        "touched",
+        "released",
+        "finished",
+        "wait 1",
+        "wait 2",
+        "refused 2",
+        "refused 3",
+        "refused 4",
+        "refused 5",
+        "refused 7",
+        "refused 8",
+        "refused 20 at",
+        "refused 21 at",
+        "refused 22 at",
+        "refused 26 at",
+        "refused 27 at",
+        "order",
+        "ticket",
+    ]);
+    assert_eq!(kinds((0..2_000).map(|index| desk_text(&desk_file(1, index)))), expected);
+}
+
+#[test]
+fn traces_reach_every_line() {
+    let expected = set(&[
+        "refused 20 at",
+        "refused 21 at",
+        "refused 22 at",
+        "refused 23 at",
+        "refused 26 at",
+        "refused 27 at",
+        "refused 28 at",
+        "order",
+        "ticket",
+    ]);
+    assert_eq!(kinds((0..1_000).map(|index| order_text(&order_file(1, index)))), expected);
+}
+
+#[test]
+fn files_reach_their_limits() {
+    let desk: BTreeSet<usize> = (0..2_000).map(|index| desk_file(1, index).len()).collect();
+    let order: BTreeSet<usize> = (0..2_000).map(|index| order_file(1, index).len()).collect();
+    assert!([0, 16_384, 16_385].iter().all(|length| desk.contains(length)));
+    assert!([0, 65_536, 65_537].iter().all(|length| order.contains(length)));
+}
+
+#[test]
+fn strange_spellings() {
+    assert_eq!(spell(5, 1), [5]);
+    assert_eq!(spell(5, 2), [0x85, 0]);
+    assert_eq!(spell(0, 3), [0x80, 0x80, 0]);
+    assert_eq!(spell(65_536, 1), [0x80, 0x80, 4]);
+    assert_eq!(spell(2_097_152, 1), [0x80, 0x80, 0x80, 1]);
+}
