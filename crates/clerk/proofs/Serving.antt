@@ -9,6 +9,8 @@ use denote.Enum.Declared.{tagOf}
 use lib.ListN.{length, take, drop, length-drop}
 use lib.Seq.{drop-drop}
 use Rattle.words.specs.Parts.{Bytes, bytes-rest, part-rest}
+use Rattle.trace.specs.Answers.{number}
+use Rattle.trace.specs.declared.Fault.{Fault}
 use Rattle.desk.specs.declared.Desk.{Desk}
 use Rattle.desk.specs.declared.Request.{Request}
 use Rattle.desk.specs.Limits.{seats}
@@ -18,14 +20,14 @@ use Rattle.demands.specs.Runs.{good-run}
 use Rattle.text.specs.Places.{Placed, placed, puts}
 use Rattle.text.specs.PlaceLaws.{puts-join}
 use Rattle.clerk.specs.Limits.{fileBytes, roomBytes, eventBytes}
-use Rattle.clerk.specs.Answers.{request, askedSaid}
+use Rattle.clerk.specs.Answers.{request, end, no-request, askedSaid}
 use Rattle.clerk.specs.Requests.{readRequest}
 use Rattle.clerk.specs.RequestLaws.{Here, request-here}
-use Rattle.clerk.specs.Lines.{line, lines}
+use Rattle.clerk.specs.Lines.{line, lines, refusedAt, orderText}
 use Rattle.clerk.specs.Files.{requestsFrom, requestsOf, blank, after, answers, closing, textOf}
 use Rattle.demands.specs.Run.{traceOf}
 use Rattle.clerk.specs.FileLaws.{blank-clears}
-use Rattle.clerk.specs.Turns.{Stands, Turned, textFrom, closedBy}
+use Rattle.clerk.specs.Turns.{Stands, Turned, textFrom}
 use Rattle.clerk.specs.declared.Place.{Place}
 use Rattle.clerk.specs.declared.Asked.{Asked}
 use Rattle.clerk.specs.declared.Asked.the-variants.{Found, End, Unread}
@@ -42,14 +44,23 @@ text-on (suc fuel) l at n q m h e =
     let d : suc fuel - 1 ≡ fuel = omega arith in
     rw (e, d) (append-assoc (line (step seats (m .state) q .says)) _ _)
 
--- none: the order of the trace, or the fault
-text-end : (fuel : ℕ) (l : List ℕ) (at : ℕ) (m : Moment) (got : Asked) → 0 < fuel → askedSaid got ≡ readRequest l → OneOf (1 ∷ 2 ∷ []) (tagOf asked-type.the-type got)
-    → textFrom m (requestsFrom fuel l at) ≡ closedBy (askedSaid got) at (traceOf (m .history))
+-- the end: the order of the trace
+text-end : (fuel : ℕ) (l : List ℕ) (at : ℕ) (m : Moment) → 0 < fuel → readRequest l ≡ end → textFrom m (requestsFrom fuel l at) ≡ orderText (traceOf (m .history))
 unfolding requestsFrom answers afterAll lines closing
-text-end zero l at m got h e k = absurd (omega arith)
-text-end (suc fuel) l at m (Found q n) h e k = absurd (⊎-elim (λ z. omega arith) (λ z. omega arith) k)
-text-end (suc fuel) l at m End h e k = rw (sym e)
-text-end (suc fuel) l at m (Unread f) h e k = rw (sym e)
+text-end zero l at m h e = absurd (omega arith)
+text-end (suc fuel) l at m h e = rw e
+
+-- a fault: its line
+text-fault : (fuel : ℕ) (l : List ℕ) (at k : ℕ) (m : Moment) → 0 < fuel → readRequest l ≡ no-request k → textFrom m (requestsFrom fuel l at) ≡ refusedAt k at
+unfolding requestsFrom answers afterAll lines closing
+text-fault zero l at k m h e = absurd (omega arith)
+text-fault (suc fuel) l at k m h e = rw e
+
+-- what is neither a request nor a fault is the end
+at-end : (x : Asked) → OneOf (1 ∷ 2 ∷ []) (tagOf asked-type.the-type x) → OneOf (0 ∷ 1 ∷ []) (tagOf asked-type.the-type x) → x ≡ End
+at-end (Found q n) k l = absurd (⊎-elim (λ z. omega arith) (λ z. omega arith) k)
+at-end End k l = refl
+at-end (Unread f) k l = absurd (⊎-elim (λ z. omega arith) (λ z. omega arith) l)
 
 -- ---- the loop
 
@@ -135,10 +146,17 @@ module _ {input out₀ h l room out : List ℕ} {p : Place} {offset : ℕ} (w : 
         same : puts rest (placed out′ (r .at)) ≡ puts (textOf (requestsOf input)) (placed out₀ 0)
         same = rw (t .prints, ← puts-join (line (step seats (state h l (p .desk)) q .says)) rest (placed out (p .at)), joined) (w .same)
 
-  -- where no request was read, what is put then completes the text
-  pub serving-end : (got : Asked) → askedSaid got ≡ readRequest (take (length input - offset) (drop offset input)) → OneOf (1 ∷ 2 ∷ []) (tagOf asked-type.the-type got)
-      → {r : Placed} → r ≡ puts (closedBy (askedSaid got) offset (take (p .used) room)) (placed out (p .at)) → r ≡ puts (textOf (requestsOf input)) (placed out₀ 0)
-  serving-end got e k d =
-      let read : askedSaid got ≡ readRequest (drop offset input) = rw (part-rest offset input) at e in
-      let closed = text-end (w .fuel) (drop offset input) offset (w .moment) got (omega (arith, w .enough)) read k in
-      rw (d, w .stands .trace .front, ← closed) (w .same)
+  -- what is put where no request was read completes the text
+  module _ (got : Asked) (e : askedSaid got ≡ readRequest (take (length input - offset) (drop offset input))) where
+    here-is : readRequest (drop offset input) ≡ askedSaid got
+    here-is = sym (rw (part-rest offset input) at e)
+
+    -- the line of a fault
+    pub serving-fault : {r : Placed} (f : Fault) → got ≡ Unread f → (n : ℕ) → n ≡ number f → r ≡ puts (refusedAt n offset) (placed out (p .at)) → r ≡ puts (textOf (requestsOf input)) (placed out₀ 0)
+    serving-fault f is n k d = rw (d, k, ← text-fault (w .fuel) (drop offset input) offset (number f) (w .moment) (omega (arith, w .enough)) (here-is ∙ ap askedSaid is)) (w .same)
+
+    -- or the order of the trace
+    pub serving-end : {r : Placed} → OneOf (1 ∷ 2 ∷ []) (tagOf asked-type.the-type got) → OneOf (0 ∷ 1 ∷ []) (tagOf asked-type.the-type got)
+        → r ≡ puts (orderText (take (p .used) room)) (placed out (p .at)) → r ≡ puts (textOf (requestsOf input)) (placed out₀ 0)
+    serving-end k l d =
+        rw (d, w .stands .trace .front, ← text-end (w .fuel) (drop offset input) offset (w .moment) (omega (arith, w .enough)) (here-is ∙ ap askedSaid (at-end got k l))) (w .same)

@@ -1,7 +1,7 @@
 -- Where a run of a request file is, request by request, as the code's contracts say it.
 use Prim.Native.Nat.{ℕ, _+_, _≤_}
 use mathlib.Core.Path.{_≡_}
-use mathlib.Core.List.{List, [], _++_}
+use mathlib.Core.List.{List, _++_}
 use lib.ListN.{length, take}
 use Rattle.trace.specs.History.{History}
 use Rattle.desk.specs.declared.Request.{Request}
@@ -11,8 +11,7 @@ use Rattle.demands.specs.Run.{Moment, next, afterAll}
 use Rattle.demands.specs.Keeps.{Good}
 use Rattle.text.specs.Places.{placed, puts}
 use Rattle.clerk.specs.Limits.{eventBytes}
-use Rattle.clerk.specs.Answers.{AskedSaid, request, end, no-request}
-use Rattle.clerk.specs.Lines.{refusedAt, line, lines, orderText}
+use Rattle.clerk.specs.Lines.{line, lines}
 use Rattle.clerk.specs.Files.{Requests, answers, closing}
 use Rattle.demands.specs.Run.{traceOf}
 use Rattle.clerk.specs.Rooms.{Filled, filled}
@@ -38,12 +37,6 @@ pub record Turned (q : Request) (h l : List ℕ) (p : Place) (room out h′ l′
 -- what is printed of requests from a moment on
 abbrev pub textFrom : Moment → Requests → List ℕ
 textFrom m r = lines (answers m (r .asked)) ++ closing (r .ending) (afterAll seats m (r .asked) .history)
-
--- what is printed at an offset where no request stands: the order of the trace, or the fault
-abbrev pub closedBy : AskedSaid → ℕ → List ℕ → List ℕ
-closedBy (request q n) at trace = []
-closedBy end at trace = orderText trace
-closedBy (no-request k) at trace = refusedAt k at
 
 -- n counts bytes at the front of l; the second part, which follows, is what lending `&l[..n]` asks
 abbrev pub Counted : ℕ → List ℕ → Type 0

@@ -18,7 +18,7 @@ ghost use Rattle.clerk.specs.Requests.{readSeat, asRecord, readPair, ofS
 ghost use Rattle.clerk.specs.Lines.{refusedAt, line, ticketLines, listed, orderLines, orderText, Within};
 ghost use Rattle.clerk.specs.Rooms.{filled, noteEvent, notes};
 ghost use Rattle.clerk.specs.Files.{after, requestsOf, textOf, deskText};
-ghost use Rattle.clerk.specs.Turns.{Turned, closedBy, Counted};
+ghost use Rattle.clerk.specs.Turns.{Turned, Counted};
 use desk::Answer;
 use desk::Desk;
 use desk::Request;
@@ -435,24 +435,13 @@ fn serve(
         else {
             let used = p.used;
             let at = p.at;
-            return close(out, at, got, offset, &room[..used]);
+            if let Asked::Unread(fault) = got {
+                return put_refused(out, at, trace::refusal_number(fault) as usize, offset);
+            }
+            return put_order(out, at, &room[..used]);
         };
         p = turn(held, released, room, out, p, q);
         offset += n;
-    }
-}
-
-// Prints what follows the last answer: the order of the trace, or the fault that was met at an offset.
-fn close(out: &mut [u8], at: usize, got: Asked, offset: usize, trace: &[u8]) -> usize
-    ensures { λ r. ⌜ placed (now (out .exit)) r ≡ puts (closedBy (askedSaid got) offset (now (trace .entry))) (placed (now (out .entry)) at) ⌝ }
-{
-    match got {
-        Asked::End => put_order(out, at, trace),
-        Asked::Unread(f) => put_refused(out, at, trace::refusal_number(f) as usize, offset),
-        Asked::Found {
-            request: _,
-            length: _,
-        } => at,
     }
 }
 

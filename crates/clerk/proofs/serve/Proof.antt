@@ -5,7 +5,7 @@ use lib.ListN.{length}
 use lib.Seq.{length-take-le}
 use native.Mathlib.Omega.{arith}
 use borrow.Author.Needs.{needs}
-use Rattle.clerk.proofs.Serving.{Serving, serving-start, serving-place, serving-room, serving-on, serving-end}
+use Rattle.clerk.proofs.Serving.{Serving, serving-start, serving-place, serving-room, serving-on, serving-fault, serving-end}
 use Rattle.clerk.proofs.serve.Statement.{statement}
 use Rattle.clerk.proofs.serve.Tie as tie
 
@@ -37,14 +37,17 @@ request-requires c κs = search needs
 enum-known-got : tie.Need-enum-known-got Inv-loop μ-loop
 enum-known-got c = search needs
 
-slice-reshare-prefix-close : tie.Need-slice-reshare-prefix-close Inv-loop μ-loop
-slice-reshare-prefix-close c = c .before .before .before .before .loop .inv .0 .stands .trace .within
+enum-known-got-2 : tie.Need-enum-known-got-2 Inv-loop μ-loop
+enum-known-got-2 c = search needs
 
-slice-aggregate-close : tie.Need-slice-aggregate-close Inv-loop μ-loop
-slice-aggregate-close c = sym (length-take-le _ _ (c .before .before .before .before .before .loop .inv .0 .stands .trace .within))
+refusal-number-requires : tie.Need-refusal-number-requires Inv-loop μ-loop
+refusal-number-requires c κs = search needs
 
-close-requires : tie.Need-close-requires Inv-loop μ-loop
-close-requires c κs = search needs
+cast-put-refused : tie.Need-cast-put-refused Inv-loop μ-loop
+cast-put-refused c = search needs
+
+put-refused-requires : tie.Need-put-refused-requires Inv-loop μ-loop
+put-refused-requires c κs = search needs
 
 same-length : tie.Need-same-length Inv-loop μ-loop
 same-length c = search needs
@@ -59,7 +62,31 @@ same-length-4 : tie.Need-same-length-4 Inv-loop μ-loop
 same-length-4 c = search needs
 
 returns : tie.Need-returns Inv-loop μ-loop
-returns c = search serving-end
+returns c = search (serving-fault, needs)
+
+slice-reshare-prefix-put-order : tie.Need-slice-reshare-prefix-put-order Inv-loop μ-loop
+slice-reshare-prefix-put-order c = c .before .before .before .before .before .loop .inv .0 .stands .trace .within
+
+slice-aggregate-put-order : tie.Need-slice-aggregate-put-order Inv-loop μ-loop
+slice-aggregate-put-order c = sym (length-take-le _ _ (c .before .before .before .before .before .before .loop .inv .0 .stands .trace .within))
+
+put-order-requires : tie.Need-put-order-requires Inv-loop μ-loop
+put-order-requires c κs = search needs
+
+same-length-5 : tie.Need-same-length-5 Inv-loop μ-loop
+same-length-5 c = search needs
+
+same-length-6 : tie.Need-same-length-6 Inv-loop μ-loop
+same-length-6 c = search needs
+
+same-length-7 : tie.Need-same-length-7 Inv-loop μ-loop
+same-length-7 c = search needs
+
+same-length-8 : tie.Need-same-length-8 Inv-loop μ-loop
+same-length-8 c = search needs
+
+returns-2 : tie.Need-returns-2 Inv-loop μ-loop
+returns-2 c = search (serving-end, needs)
 
 turn-requires : tie.Need-turn-requires Inv-loop μ-loop
 turn-requires c κs = serving-room (c .before .before .before .before .before .before .before .before .before .loop .inv .0) (c .before .before .before .before .before .before .before .request .ensures) (c .before .before .before .before .before .got .given .1)
@@ -85,14 +112,23 @@ serve-spec =
     part-request-end
     request-requires
     enum-known-got
-    slice-reshare-prefix-close
-    slice-aggregate-close
-    close-requires
+    enum-known-got-2
+    refusal-number-requires
+    cast-put-refused
+    put-refused-requires
     same-length
     same-length-2
     same-length-3
     same-length-4
     returns
+    slice-reshare-prefix-put-order
+    slice-aggregate-put-order
+    put-order-requires
+    same-length-5
+    same-length-6
+    same-length-7
+    same-length-8
+    returns-2
     turn-requires
     add-offset
     loop-less
