@@ -17,13 +17,14 @@ use Rattle.desk.specs.Limits.{seats}
 use Rattle.desk.specs.Step.{State, state, step}
 use Rattle.demands.specs.Run.{Moment, next, afterAll}
 use Rattle.demands.specs.Runs.{good-run}
+use Rattle.text.specs.Lines.{refusedAt}
 use Rattle.text.specs.Places.{Placed, placed, puts}
 use Rattle.text.specs.PlaceLaws.{puts-join}
 use Rattle.clerk.specs.Limits.{fileBytes, roomBytes, eventBytes}
 use Rattle.clerk.specs.Answers.{request, end, no-request, askedSaid}
 use Rattle.clerk.specs.Requests.{readRequest}
 use Rattle.clerk.specs.RequestLaws.{Here, request-here}
-use Rattle.clerk.specs.Lines.{line, lines, refusedAt, orderText}
+use Rattle.clerk.specs.Lines.{line, lines, orderText}
 use Rattle.clerk.specs.Files.{requestsFrom, requestsOf, blank, after, answers, closing, textOf}
 use Rattle.demands.specs.Run.{traceOf}
 use Rattle.clerk.specs.FileLaws.{blank-clears}

@@ -11,10 +11,10 @@ use Rattle.words.specs.Parts.{Bytes, bytes-rest}
 use Rattle.desk.specs.Limits.{seats}
 use Rattle.desk.specs.Answers.{cleared}
 use Rattle.desk.specs.Step.{fitting, clearing}
+use Rattle.text.specs.Lines.{refusedAt}
 use Rattle.text.specs.Places.{Placed, placed, puts}
 use Rattle.text.specs.PlaceLaws.{puts-within}
 use Rattle.clerk.specs.Limits.{fileBytes}
-use Rattle.clerk.specs.Lines.{refusedAt}
 use Rattle.clerk.specs.Answers.{AskedSaid, request, end, no-request}
 use Rattle.clerk.specs.Requests.{readRequest}
 use Rattle.clerk.specs.RequestLaws.{request-here}

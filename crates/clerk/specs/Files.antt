@@ -10,10 +10,11 @@ use Rattle.desk.specs.Limits.{seats}
 use Rattle.desk.specs.Answers.{Said}
 use Rattle.desk.specs.Step.{step}
 use Rattle.demands.specs.Run.{Moment, next, run, traceOf}
+use Rattle.text.specs.Lines.{refusedAt}
 use Rattle.clerk.specs.Limits.{fileBytes, deskRecords}
 use Rattle.clerk.specs.Answers.{AskedSaid, request, end, no-request}
 use Rattle.clerk.specs.Requests.{readRequest}
-use Rattle.clerk.specs.Lines.{refusedAt, lines, orderText}
+use Rattle.clerk.specs.Lines.{lines, orderText}
 
 -- ---- reading
 

@@ -13,15 +13,10 @@ use Rattle.order.specs.Order.{orderOf}
 use Rattle.order.specs.Theorems.{ordered-few}
 use Rattle.text.specs.Places.{Placed, puts}
 use Rattle.text.specs.PlaceLaws.{puts-then}
-use Rattle.text.specs.Lines.{numeral, lineOf}
-use Rattle.clerk.specs.Lines.{Within, few, none, refusedWord, atWord, orderWord, refusedAt, ticketLines, listed, orderLines, orderText}
+use Rattle.text.specs.Lines.{lineOf}
+use Rattle.clerk.specs.Lines.{Within, few, none, orderWord, ticketLines, listed, orderLines, orderText}
 
 -- ---- how they are put
-
--- a refusal: its three parts
-pub refused-puts : (n offset : ℕ) (p a b : Placed) {r : Placed} → a ≡ puts refusedWord p → b ≡ puts (numeral n) a → r ≡ puts (lineOf atWord offset) b → r ≡ puts (refusedAt n offset) p
-unfolding refusedAt
-refused-puts n offset p a b d e f = puts-then refusedWord (numeral n ++ lineOf atWord offset) p a d (puts-then (numeral n) (lineOf atWord offset) a b e f)
 
 -- one ticket more
 tickets-more : (l : List ℕ) (t : ℕ) → ticketLines (l ++ (t ∷ [])) ≡ ticketLines l ++ lineOf [] t

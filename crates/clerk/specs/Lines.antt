@@ -7,23 +7,11 @@ use Rattle.order.specs.Limits.{tickets, tableWords}
 use Rattle.order.specs.Answers.{OrderSaid, ordered, Call}
 use Rattle.order.specs.Answers as order-answers
 use Rattle.order.specs.Order.{orderOf}
-use Rattle.text.specs.Lines.{numeral, lineOf}
-
--- "refused "
-abbrev pub refusedWord : List ℕ
-refusedWord = 114 ∷ 101 ∷ 102 ∷ 117 ∷ 115 ∷ 101 ∷ 100 ∷ 32 ∷ []
-
--- " at "
-abbrev pub atWord : List ℕ
-atWord = 32 ∷ 97 ∷ 116 ∷ 32 ∷ []
+use Rattle.text.specs.Lines.{lineOf, refusedAt, refusedWord}
 
 -- "order "
 abbrev pub orderWord : List ℕ
 orderWord = 111 ∷ 114 ∷ 100 ∷ 101 ∷ 114 ∷ 32 ∷ []
-
--- `refused N at OFFSET`
-unfoldable pub refusedAt : ℕ → ℕ → List ℕ
-refusedAt n offset = refusedWord ++ (numeral n ++ lineOf atWord offset)
 
 -- the line of an answer
 unfoldable pub line : Said → List ℕ

@@ -17,12 +17,13 @@ use Rattle.order.specs.Answers.{OrderSaid, ordered, Call}
 use Rattle.order.specs.Answers as order-answers
 use Rattle.order.specs.Order.{orderOf}
 use Rattle.demands.specs.Run.{Moment, recordOf, next, afterAll}
+use Rattle.text.specs.Lines.{atWord, refusedAt}
 use Rattle.text.specs.LineLaws.{numeral-long, line-of-long}
 use Rattle.clerk.specs.Limits.{fileBytes, eventBytes, roomBytes, lineBytes, orderTextBytes, deskTextBytes}
 use Rattle.clerk.specs.Answers.{AskedSaid, request, end, no-request}
 use Rattle.clerk.specs.Requests.{readRequest}
 use Rattle.clerk.specs.RequestLaws.{request-here}
-use Rattle.clerk.specs.Lines.{atWord, orderWord, refusedAt, line, lines, ticketLines, listed, orderLines, orderText}
+use Rattle.clerk.specs.Lines.{orderWord, line, lines, ticketLines, listed, orderLines, orderText}
 use Rattle.order.specs.Theorems.{ordered-few}
 use Rattle.clerk.specs.RoomLaws.{called-long}
 use Rattle.clerk.specs.Files.{Ending, all, fault, requestsBy, requestsFrom, requestsOf, after, answers, closing, deskText}

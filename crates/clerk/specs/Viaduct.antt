@@ -14,9 +14,9 @@ use Rattle.order.specs.Listing.{elem, ready, next, places, complete}
 use Rattle.order.specs.Order.{settled, orderOf}
 use Rattle.order.specs.Walk.{walkFrom, walk}
 use Rattle.demands.specs.Run.{afterAll}
-use Rattle.text.specs.Lines.{digits, numeral, lineOf}
+use Rattle.text.specs.Lines.{digits, numeral, lineOf, refusedAt}
 use Rattle.clerk.specs.Requests.{asSeat, asRecord, readSeat, afterSeat, readPair, ofSeat, ofPair, byKind, readRequest}
-use Rattle.clerk.specs.Lines.{refusedAt, line, lines, ticketLines, listed, orderLines, orderText}
+use Rattle.clerk.specs.Lines.{line, lines, ticketLines, listed, orderLines, orderText}
 use Rattle.clerk.specs.Files.{requestsFrom, requestsOf, answers, closing, deskText}
 
 -- its request file

@@ -15,7 +15,7 @@ ghost use Rattle.text.specs.Places.{placed, puts};
 ghost use Rattle.clerk.specs.Limits.{fileBytes, roomBytes, eventBytes};
 ghost use Rattle.clerk.specs.Answers.{askedSaid, coupleSaid};
 ghost use Rattle.clerk.specs.Requests.{readSeat, asRecord, readPair, ofSeat, ofPair, readRequest};
-ghost use Rattle.clerk.specs.Lines.{refusedAt, line, ticketLines, listed, orderLines, orderText, Within};
+ghost use Rattle.clerk.specs.Lines.{line, ticketLines, listed, orderLines, orderText, Within};
 ghost use Rattle.clerk.specs.Rooms.{filled, noteEvent, notes};
 ghost use Rattle.clerk.specs.Files.{after, requestsOf, textOf, deskText};
 ghost use Rattle.clerk.specs.Turns.{Turned, Counted};
@@ -223,15 +223,6 @@ fn record(rest: &[u8], s: u32, n: usize) -> Couple
 
 // ---- lines
 
-// Puts the line of a refusal with its offset.
-fn put_refused(out: &mut [u8], at: usize, n: usize, offset: usize) -> usize
-    ensures { λ r. ⌜ placed (now (out .exit)) r ≡ puts (refusedAt n offset) (placed (now (out .entry)) at) ⌝ }
-{
-    let a = text::put_bytes(out, at, b"refused ");
-    let b = text::put_decimal(out, a, n);
-    text::put_line(out, b, b" at ", offset)
-}
-
 // Puts the line of an answer.
 fn put_answer(out: &mut [u8], at: usize, answer: Answer) -> usize
     ensures { λ r. ⌜ placed (now (out .exit)) r ≡ puts (line (said answer)) (placed (now (out .entry)) at) ⌝ }
@@ -281,13 +272,13 @@ fn put_called(out: &mut [u8], at: usize, said: Order, list: &[u16]) -> usize
 {
     match said {
         Order::Ordered { count } => put_listed(out, at, list, count as usize),
-        Order::WrongLength => put_refused(out, at, 25, 0),
-        Order::TooLong => put_refused(out, at, 26, 0),
+        Order::WrongLength => text::put_refused(out, at, 25, 0),
+        Order::TooLong => text::put_refused(out, at, 26, 0),
         Order::Unread { fault, at: offset } => {
-            put_refused(out, at, trace::refusal_number(fault) as usize, offset)
+            text::put_refused(out, at, trace::refusal_number(fault) as usize, offset)
         }
-        Order::FarTicket { at: offset } => put_refused(out, at, 27, offset),
-        Order::Ring => put_refused(out, at, 28, 0),
+        Order::FarTicket { at: offset } => text::put_refused(out, at, 27, offset),
+        Order::Ring => text::put_refused(out, at, 28, 0),
     }
 }
 
@@ -436,7 +427,7 @@ fn serve(
             let used = p.used;
             let at = p.at;
             if let Asked::Unread(fault) = got {
-                return put_refused(out, at, trace::refusal_number(fault) as usize, offset);
+                return text::put_refused(out, at, trace::refusal_number(fault) as usize, offset);
             }
             return put_order(out, at, &room[..used]);
         };
@@ -453,7 +444,7 @@ pub fn desk_text(input: &[u8], out: &mut [u8]) -> usize
     ensures { λ r. ⌜ Counted r (now (out .exit)) ⌝ }
 {
     if FILE_BYTES < input.len() {
-        return put_refused(out, 0, 26, 0);
+        return text::put_refused(out, 0, 26, 0);
     }
     let mut held = [0u32; DESK_RECORDS];
     let mut released = [0u32; DESK_RECORDS];

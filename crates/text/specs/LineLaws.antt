@@ -9,7 +9,7 @@ use borrow.Author.Tests.{lt-ltb, le-ltb}
 use Rattle.words.specs.Tests.{pick, either}
 use Rattle.text.specs.Places.{Placed, puts}
 use Rattle.text.specs.PlaceLaws.{puts-then}
-use Rattle.text.specs.Lines.{digits, numeral, lineOf}
+use Rattle.text.specs.Lines.{digits, numeral, lineOf, refusedWord, atWord, refusedAt}
 
 -- a small number has one digit
 pub numeral-small : (n : ℕ) → n < 10 → numeral n ≡ (48 + n) ∷ []
@@ -63,3 +63,8 @@ decimal-more n p q h f d e = rw (numeral-more n h f) (puts-then (numeral (n / 10
 pub line-puts : (w : List ℕ) (n : ℕ) (p a b : Placed) {r : Placed} → a ≡ puts w p → b ≡ puts (numeral n) a → r ≡ puts (10 ∷ []) b → r ≡ puts (lineOf w n) p
 unfolding lineOf
 line-puts w n p a b d e f = puts-then w (numeral n ++ (10 ∷ [])) p a d (puts-then (numeral n) (10 ∷ []) a b e f)
+
+-- a refusal with its offset that is put: the word and the number, and the offset's line
+pub refused-puts : (n offset : ℕ) (p a b : Placed) {r : Placed} → a ≡ puts refusedWord p → b ≡ puts (numeral n) a → r ≡ puts (lineOf atWord offset) b → r ≡ puts (refusedAt n offset) p
+unfolding refusedAt
+refused-puts n offset p a b d e f = puts-then refusedWord (numeral n ++ lineOf atWord offset) p a d (puts-then (numeral n) (lineOf atWord offset) a b e f)

@@ -16,3 +16,15 @@ numeral n = digits 20 n
 -- a word, a number and a line's end, which is 10
 unfoldable pub lineOf : List ℕ → ℕ → List ℕ
 lineOf word n = word ++ (numeral n ++ (10 ∷ []))
+
+-- "refused "
+abbrev pub refusedWord : List ℕ
+refusedWord = 114 ∷ 101 ∷ 102 ∷ 117 ∷ 115 ∷ 101 ∷ 100 ∷ 32 ∷ []
+
+-- " at "
+abbrev pub atWord : List ℕ
+atWord = 32 ∷ 97 ∷ 116 ∷ 32 ∷ []
+
+-- "refused N at OFFSET" and a line's end
+unfoldable pub refusedAt : ℕ → ℕ → List ℕ
+refusedAt n offset = refusedWord ++ (numeral n ++ lineOf atWord offset)

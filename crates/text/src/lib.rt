@@ -2,7 +2,7 @@
 ghost use mathlib.Core.Path.{_≡_};
 ghost use mathlib.Core.List.{[], _∷_};
 ghost use Rattle.text.specs.Places.{placed, puts};
-ghost use Rattle.text.specs.Lines.{numeral, lineOf};
+ghost use Rattle.text.specs.Lines.{numeral, lineOf, refusedAt};
 
 // Puts one byte at `at`, and gives the place after it; where there is no room nothing is put.
 pub fn put_byte(text: &mut [u8], at: usize, b: u8) -> usize
@@ -46,4 +46,13 @@ pub fn put_line(text: &mut [u8], at: usize, word: &[u8], n: usize) -> usize
     let a = put_bytes(text, at, word);
     let b = put_decimal(text, a, n);
     put_byte(text, b, 10)
+}
+
+// Puts the line of a refusal with its offset.
+pub fn put_refused(text: &mut [u8], at: usize, n: usize, offset: usize) -> usize
+    ensures { λ r. ⌜ placed (now (text .exit)) r ≡ puts (refusedAt n offset) (placed (now (text .entry)) at) ⌝ }
+{
+    let a = put_bytes(text, at, b"refused ");
+    let b = put_decimal(text, a, n);
+    put_line(text, b, b" at ", offset)
 }

@@ -19,7 +19,8 @@ use Rattle.trace.specs.declared.Reading.{Reading}
 use Rattle.trace.specs.declared.Reading.the-variants.{Found, End, Unread}
 use Rattle.text.specs.Places.{placed, puts}
 use Rattle.text.specs.PlaceLaws.{puts-join}
-use Rattle.wording.specs.Telling.{eventLine, refusedLine, tellBy, tellFrom, eventsTold}
+use Rattle.text.specs.Lines.{refusedAt}
+use Rattle.wording.specs.Telling.{eventLine, tellBy, tellFrom, eventsTold}
 
 -- the loop is at an offset, and at a place in the text
 pub record Telling (trace text₀ text : List ℕ) (at end : ℕ) : Type 0 where
@@ -51,7 +52,7 @@ module _ {trace text₀ text : List ℕ} {at end : ℕ} (w : Telling trace text�
       ∙ w .same
 
   -- no event reads: one last line
-  pub telling-unread : {f : Fault} {text′ : List ℕ} {k r : ℕ} → got ≡ Unread f → k ≡ number f → placed text′ r ≡ puts (refusedLine k at) (placed text end)
+  pub telling-unread : {f : Fault} {text′ : List ℕ} {k r : ℕ} → got ≡ Unread f → k ≡ number f → placed text′ r ≡ puts (refusedAt k at) (placed text end)
       → placed text′ r ≡ puts (eventsTold trace) (placed text₀ 0)
   telling-unread {f} e n p = (rw n at p) ∙ goes (ap readingSaid e)
 

@@ -9,7 +9,7 @@ use Rattle.trace.specs.Events.{readAt}
 use Rattle.trace.specs.declared.Event.{Event}
 use Rattle.trace.specs.declared.Event.the-variants.{Started, Granted, Touched, Released, Finished}
 use Rattle.order.specs.Limits.{longest}
-use Rattle.text.specs.Lines.{numeral, lineOf}
+use Rattle.text.specs.Lines.{numeral, lineOf, refusedAt}
 
 -- how many bytes a trace that is told may have: the order call's limit
 abbrev pub traceBytes : ℕ
@@ -39,14 +39,6 @@ releasedWord = 32 ∷ 114 ∷ 101 ∷ 108 ∷ 101 ∷ 97 ∷ 115 ∷ 101 ∷ 100
 abbrev pub finishedWord : List ℕ
 finishedWord = 32 ∷ 102 ∷ 105 ∷ 110 ∷ 105 ∷ 115 ∷ 104 ∷ 101 ∷ 100 ∷ 32 ∷ []
 
--- "refused "
-abbrev pub refusedWord : List ℕ
-refusedWord = 114 ∷ 101 ∷ 102 ∷ 117 ∷ 115 ∷ 101 ∷ 100 ∷ 32 ∷ []
-
--- " at "
-abbrev pub atWord : List ℕ
-atWord = 32 ∷ 97 ∷ 116 ∷ 32 ∷ []
-
 -- an offset, a word and a ticket
 unfoldable pub ticketLine : ℕ → List ℕ → ℕ → List ℕ
 ticketLine at word t = numeral at ++ lineOf word t
@@ -63,15 +55,11 @@ eventLine at (Touched t r) = pairLine at touchedWord t r
 eventLine at (Released t r) = pairLine at releasedWord t r
 eventLine at (Finished t) = ticketLine at finishedWord t
 
--- a refusal's number and an offset, "refused N at OFFSET"
-unfoldable pub refusedLine : ℕ → ℕ → List ℕ
-refusedLine n at = refusedWord ++ (numeral n ++ lineOf atWord at)
-
 -- what is told at an offset, by what stands there: an event and what follows it, nothing at the end, or one last line
 abbrev pub tellBy : ReadingSaid → ℕ → (ℕ → List ℕ) → List ℕ
 tellBy (event e n) at on = eventLine at e ++ on n
 tellBy end at on = []
-tellBy (no-event k) at on = refusedLine k at
+tellBy (no-event k) at on = refusedAt k at
 
 -- the rest l of a trace from an offset on, in at most `fuel` readings (one for each byte and one more are enough)
 unfoldable pub tellFrom : ℕ → List ℕ → ℕ → List ℕ
@@ -84,4 +72,4 @@ eventsTold trace = tellFrom (suc (length trace)) trace 0
 
 -- the text of a trace; one that is too long is refused whole, as by the order program
 unfoldable pub told : List ℕ → List ℕ
-told trace = pick (leb (length trace) traceBytes) (eventsTold trace) (refusedLine 26 0)
+told trace = pick (leb (length trace) traceBytes) (eventsTold trace) (refusedAt 26 0)

@@ -20,9 +20,9 @@ use Rattle.trace.specs.declared.Event.{Event}
 use Rattle.trace.specs.declared.Event.the-variants.{Started, Granted, Touched, Released, Finished}
 use Rattle.text.specs.Places.{Placed, placed, puts}
 use Rattle.text.specs.PlaceLaws.{puts-then, puts-within, puts-front}
-use Rattle.text.specs.Lines.{digits, numeral, lineOf}
+use Rattle.text.specs.Lines.{digits, numeral, lineOf, refusedAt}
 use Rattle.text.specs.LineLaws.{numeral-long}
-use Rattle.wording.specs.Telling.{traceBytes, textBytes, startedWord, grantedWord, touchedWord, releasedWord, finishedWord, refusedWord, atWord, ticketLine, pairLine, eventLine, refusedLine, tellBy, tellFrom, eventsTold, told}
+use Rattle.wording.specs.Telling.{traceBytes, textBytes, startedWord, grantedWord, touchedWord, releasedWord, finishedWord, ticketLine, pairLine, eventLine, tellBy, tellFrom, eventsTold, told}
 
 -- the place behind what is put from the front on lies within the buffer
 pub place-within : (s t : List ℕ) {t′ : List ℕ} {r : ℕ} → placed t′ r ≡ puts s (placed t 0) → r ≤ length t′
@@ -45,19 +45,13 @@ pub pair-puts : (at : ℕ) (w : List ℕ) (t r : ℕ) (p a b c : Placed) {d : Pl
 unfolding pairLine
 pair-puts at w t r p a b c e f g h = puts-then (numeral at) (w ++ (numeral t ++ lineOf (32 ∷ []) r)) p a e (puts-then w (numeral t ++ lineOf (32 ∷ []) r) a b f (puts-then (numeral t) (lineOf (32 ∷ []) r) b c g h))
 
--- a word, a number, then a line
-pub refused-puts : (n at : ℕ) (p a b : Placed) {r : Placed} → a ≡ puts refusedWord p → b ≡ puts (numeral n) a → r ≡ puts (lineOf atWord at) b
-    → r ≡ puts (refusedLine n at) p
-unfolding refusedLine
-refused-puts n at p a b d e f = puts-then refusedWord (numeral n ++ lineOf atWord at) p a d (puts-then (numeral n) (lineOf atWord at) a b e f)
-
 -- ---- the whole text, by the trace's length
 
 pub told-events : (trace : List ℕ) (p : Placed) {q : Placed} → length trace ≤ traceBytes → q ≡ puts (eventsTold trace) p → q ≡ puts (told trace) p
 unfolding told pick
 told-events trace p h e = rw (le-leb (length trace) traceBytes h) e
 
-pub told-long : (trace : List ℕ) (p : Placed) {q : Placed} → traceBytes < length trace → q ≡ puts (refusedLine 26 0) p → q ≡ puts (told trace) p
+pub told-long : (trace : List ℕ) (p : Placed) {q : Placed} → traceBytes < length trace → q ≡ puts (refusedAt 26 0) p → q ≡ puts (told trace) p
 unfolding told pick
 told-long trace p h e = rw (lt-leb (length trace) traceBytes h) e
 
@@ -105,8 +99,8 @@ module _ (at : ℕ) (h : at ≤ traceBytes) where
   event-long (Released t r) f = rw length-append (omega (arith, pair-long releasedWord t r (omega arith) f, spelled-some t, spelled-some r))
   event-long (Finished t) f = omega (arith, ticket-long finishedWord t (omega arith) f, spelled-some t)
 
-  refused-long : (n : ℕ) → length (refusedLine n at) ≤ 38
-  unfolding refusedLine lineOf
+  refused-long : (n : ℕ) → length (refusedAt n at) ≤ 38
+  unfolding refusedAt lineOf
   refused-long n = simp length-append (omega (arith, numeral-long n, numeral-short 4 at (omega arith)))
 
 -- what is told by a reading, where what follows is no longer than its bytes allow

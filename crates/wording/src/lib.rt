@@ -8,7 +8,7 @@ ghost use lib.ListN.{length, drop};
 ghost use Rattle.trace.specs.Limits.{limit};
 ghost use Rattle.trace.specs.Numbers.{spellNumber};
 ghost use Rattle.text.specs.Places.{placed, puts};
-ghost use Rattle.wording.specs.Telling.{ticketLine, pairLine, eventLine, refusedLine, eventsTold, told};
+ghost use Rattle.wording.specs.Telling.{ticketLine, pairLine, eventLine, eventsTold, told};
 ghost use Rattle.wording.specs.Words.{linesOf, wordsOf, same, run, inLine, inWord, blank};
 ghost use Rattle.wording.specs.Requests.{beyond, digitOn, decimal, kindOf, firstNumber, onlyNumber, later, ofSeat, ofPair, byKind, readLine, spellRequest, spellLine, fits, fitsLine};
 ghost use Rattle.wording.specs.Spelling.{isBad, firstBad, spellLines, left, spellAt, counted, reportOf, spelledSaid};
@@ -44,7 +44,7 @@ pub fn tell(trace: &[u8], text: &mut [u8]) -> usize
     if trace.len() <= order::LONGEST {
         return tell_events(trace, text);
     }
-    put_refused(text, 0, 26, 0)
+    text::put_refused(text, 0, 26, 0)
 }
 
 // Tells the events one by one.
@@ -57,7 +57,7 @@ fn tell_events(trace: &[u8], text: &mut [u8]) -> usize
         let got = trace::read(&trace[at..]);
         let Reading::Found { event, length } = got else {
             if let Reading::Unread(fault) = got {
-                return put_refused(text, end, trace::refusal_number(fault), at);
+                return text::put_refused(text, end, trace::refusal_number(fault) as usize, at);
             }
             return end;
         };
@@ -116,15 +116,6 @@ fn put_pair(text: &mut [u8], at: usize, offset: usize, word: &[u8], t: u32, r: u
     let b = text::put_bytes(text, a, word);
     let c = text::put_decimal(text, b, t as usize);
     text::put_line(text, c, b" ", r as usize)
-}
-
-// Puts a refusal's number and an offset.
-fn put_refused(text: &mut [u8], at: usize, number: u32, offset: usize) -> usize
-    ensures { λ r. ⌜ placed (now (text .exit)) r ≡ puts (refusedLine number offset) (placed (now (text .entry)) at) ⌝ }
-{
-    let a = text::put_bytes(text, at, b"refused ");
-    let b = text::put_decimal(text, a, number as usize);
-    text::put_line(text, b, b" at ", offset)
 }
 
 // ---- spelling

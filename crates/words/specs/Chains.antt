@@ -25,10 +25,6 @@ pub chain-map : {R S : ℕ → ℕ → Type 0} {i j : ℕ} → ((i j : ℕ) → 
 chain-map f (last y) = last (f _ _ y)
 chain-map f (more y c) = more (f _ _ y) (chain-map f c)
 
--- a ring of steps of R is one of any wider relation
-pub ring-map : {R S : ℕ → ℕ → Type 0} → ((i j : ℕ) → R i j → S i j) → Ring R → Ring S
-ring-map f c = (c .0, chain-map f (c .1))
-
 -- a chain has a first step
 pub first-step : {R : ℕ → ℕ → Type 0} {i j : ℕ} → Chain R i j → (k : ℕ) × R i k
 first-step (last y) = (_, y)

@@ -8,9 +8,9 @@ use Rattle.desk.specs.declared.Opened.{Opened}
 use Rattle.desk.specs.Limits.{seats}
 use Rattle.desk.specs.Step.{ClearOutcome, state, opened, clearing}
 use Rattle.demands.specs.Run.{afterAll}
+use Rattle.text.specs.Lines.{refusedAt}
 use Rattle.text.specs.Places.{placed, puts}
 use Rattle.clerk.specs.Limits.{fileBytes, roomBytes}
-use Rattle.clerk.specs.Lines.{refusedAt}
 use Rattle.clerk.specs.Files.{requestsOf, blank, after, textOf, deskText}
 use Rattle.clerk.specs.FileLaws.{put-counted, text-long, text-short}
 use Rattle.clerk.specs.Turns.{Counted}

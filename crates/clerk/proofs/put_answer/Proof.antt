@@ -6,8 +6,8 @@ use Rattle.desk.specs.declared.Answer.the-variants.{Refused}
 use Rattle.desk.specs.declared.Refusal.{Refusal}
 use Rattle.desk.specs.Answers.{number, said}
 use Rattle.text.specs.Places.{Placed, puts}
-use Rattle.text.specs.Lines.{lineOf}
-use Rattle.clerk.specs.Lines.{refusedWord, line}
+use Rattle.text.specs.Lines.{lineOf, refusedWord}
+use Rattle.clerk.specs.Lines.{line}
 use borrow.Author.Needs.{needs}
 use Rattle.clerk.proofs.put_answer.Statement.{statement}
 use Rattle.clerk.proofs.put_answer.Tie as tie

@@ -8,8 +8,9 @@ use Rattle.trace.specs.declared.Fault.{Fault}
 use Rattle.order.specs.declared.Answer.{Answer}
 use Rattle.order.specs.declared.Answer.the-variants.{Ordered, Unread}
 use Rattle.order.specs.Answers.{ordered, orderSaid}
+use Rattle.text.specs.Lines.{refusedAt}
 use Rattle.text.specs.Places.{Placed, puts}
-use Rattle.clerk.specs.Lines.{refusedAt, orderLines, Within, few}
+use Rattle.clerk.specs.Lines.{orderLines, Within, few}
 use borrow.Author.Needs.{needs}
 use Rattle.clerk.proofs.put_called.Statement.{statement}
 use Rattle.clerk.proofs.put_called.Tie as tie

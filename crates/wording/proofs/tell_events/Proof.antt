@@ -37,6 +37,9 @@ enum-known-got-2 c = search needs
 refusal-number-requires : tie.Need-refusal-number-requires Inv-loop μ-loop
 refusal-number-requires c κs = search needs
 
+cast-put-refused : tie.Need-cast-put-refused Inv-loop μ-loop
+cast-put-refused c = search needs
+
 put-refused-requires : tie.Need-put-refused-requires Inv-loop μ-loop
 put-refused-requires c κs = search needs
 
@@ -78,6 +81,7 @@ tell-events-spec =
     enum-known-got
     enum-known-got-2
     refusal-number-requires
+    cast-put-refused
     put-refused-requires
     same-length
     returns

@@ -1,8 +1,8 @@
--- `clerk::put_refused` meets its contract: three parts, one after the other.
-use Rattle.clerk.specs.LineLaws.{refused-puts}
+-- `text::put_refused` meets its contract: three parts, one after the other.
+use Rattle.text.specs.LineLaws.{refused-puts}
 use borrow.Author.Needs.{needs}
-use Rattle.clerk.proofs.put_refused.Statement.{statement}
-use Rattle.clerk.proofs.put_refused.Tie as tie
+use Rattle.text.proofs.put_refused.Statement.{statement}
+use Rattle.text.proofs.put_refused.Tie as tie
 
 slice-aggregate-put-bytes : tie.Need-slice-aggregate-put-bytes
 slice-aggregate-put-bytes c = search needs
