@@ -1,0 +1,99 @@
+/* Saltlicker's calls for C. Link target/staticlib/libsaltlicker.a, which `rt staticlib saltlicker` proves and builds.
+
+   Every slice is a pointer and a length in elements. A pointer may not be null; where the length is 0 it is not read through.
+   Two slices of one call may not overlap where either is written. Within these two rules no call reads or writes past a slice,
+   whatever it is lent, and a call that is refused leaves what it was lent unchanged but where its line says otherwise. */
+#ifndef SALTLICKER_H
+#define SALTLICKER_H
+
+#include <stddef.h>
+#include <stdint.h>
+
+#ifdef __cplusplus
+extern "C" {
+#endif
+
+/* An answer: a code in the upper 32 bits, a value in the lower 32. A code below 100 is a refusal by that number of the paper,
+   or 99. From 101 on it is the kind of the event that the answer puts in the trace, plus 100; from 201 on the rest. */
+typedef uint64_t saltlicker_answer;
+
+static inline uint32_t saltlicker_code(saltlicker_answer answer) { return (uint32_t)(answer >> 32); }
+static inline uint32_t saltlicker_value(saltlicker_answer answer) { return (uint32_t)answer; }
+
+enum {
+    SALTLICKER_UNKNOWN_KIND = 22, /* a request or an event of no such kind */
+    SALTLICKER_WRONG_LENGTH = 99, /* desk, requests, answers or event of another length than its call asks; nothing is changed */
+
+    SALTLICKER_STARTED = 101,  /* value: the ticket */
+    SALTLICKER_GRANTED = 102,
+    SALTLICKER_TOUCHED = 103,
+    SALTLICKER_RELEASED = 104,
+    SALTLICKER_FINISHED = 105,
+
+    SALTLICKER_HELD = 201,
+    SALTLICKER_WAIT = 202,     /* value: 1 or 2 */
+    SALTLICKER_CLEARED = 203,
+    SALTLICKER_JUDGED = 204,
+    SALTLICKER_FOUND = 205,    /* value: the event's length in bytes */
+    SALTLICKER_END = 206,
+    SALTLICKER_WRITTEN = 207,  /* value: the event's length in bytes */
+    SALTLICKER_ORDERED = 208   /* value: how many tickets are listed */
+};
+
+/* Kinds of request, and of event: 1 started, 2 granted, 3 touched, 4 released, 5 finished. */
+enum {
+    SALTLICKER_BEGIN = 1,
+    SALTLICKER_LOCK = 2,
+    SALTLICKER_TOUCH = 3,
+    SALTLICKER_RELEASE = 4,
+    SALTLICKER_FINISH = 5
+};
+
+enum {
+    SALTLICKER_SEATS = 32,
+    SALTLICKER_RECORDS = 4096,       /* tables have 1 to this many words */
+    SALTLICKER_REQUEST_WORDS = 3,    /* kind, seat, record (BEGIN and FINISH do not read the record) */
+    SALTLICKER_EVENT_WORDS = 3,      /* kind, ticket, record (0 where the kind has none) */
+    SALTLICKER_DESK_WORDS = 67,      /* words 2s and 2s+1: ticket and wake of seat s; bit s of word 64: seat s is live;
+                                        bit s of word 65: it has a lock; word 66: how many changes have begun */
+    SALTLICKER_TABLE_WORDS = 2048,
+    SALTLICKER_LIST_PLACES = 256,
+    SALTLICKER_TRACE_BYTES = 65536,  /* the longest trace that has an order */
+    SALTLICKER_FILE_BYTES = 16384,   /* the longest request file */
+    SALTLICKER_DESK_TEXT = 242971,   /* room for the text of any request file */
+    SALTLICKER_ORDER_TEXT = 5403     /* room for the text of any trace */
+};
+
+/* Fills both tables with zeros and the desk with a record of free seats: CLEARED. Refused 1, the tables stay and the desk is
+   still filled. */
+saltlicker_answer saltlicker_clear(uint32_t *held, size_t held_words, uint32_t *released, size_t released_words,
+                                   uint32_t *desk, size_t desk_words);
+
+/* Judges the requests one after the other, each on what the one before left, and puts each one's answer at its place:
+   JUDGED. There must be three words of requests to each answer. */
+saltlicker_answer saltlicker_judge(uint32_t *held, size_t held_words, uint32_t *released, size_t released_words,
+                                   uint32_t *desk, size_t desk_words, const uint32_t *requests, size_t request_words,
+                                   saltlicker_answer *answers, size_t answer_count);
+
+/* Reads the event at the front of the rest of a trace into kind, ticket and record: FOUND with its length, END, or refused. */
+saltlicker_answer saltlicker_read(const uint8_t *rest, size_t rest_bytes, uint32_t *event, size_t event_words);
+
+/* Puts an event at the front of the unused rest of a buffer: WRITTEN with its length, or refused. */
+saltlicker_answer saltlicker_write(uint8_t *room, size_t room_bytes, uint32_t kind, uint32_t ticket, uint32_t record);
+
+/* Works out the table of befores and the list of tickets: ORDERED, or refused, with the offset as the value. Refused 28, the
+   table holds the pairs and the list zeros. */
+saltlicker_answer saltlicker_order(const uint8_t *trace, size_t trace_bytes, uint32_t *table, size_t table_words,
+                                   uint16_t *list, size_t list_places);
+
+/* What the desk program prints of a request file, at the front of out, and how long it is; as much of it as there is room for. */
+size_t saltlicker_desk_text(const uint8_t *input, size_t input_bytes, uint8_t *out, size_t out_bytes);
+
+/* What the order program prints of a trace, in the same way. */
+size_t saltlicker_order_text(const uint8_t *trace, size_t trace_bytes, uint8_t *out, size_t out_bytes);
+
+#ifdef __cplusplus
+}
+#endif
+
+#endif
