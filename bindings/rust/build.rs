@@ -4,7 +4,8 @@ use std::path::PathBuf;
 
 fn main() {
     let home = PathBuf::from(std::env::var_os("CARGO_MANIFEST_DIR").expect("cargo sets it"));
-    let folder = std::env::var_os("SALTLICKER_LIB").map_or(home.join("../../target/staticlib"), PathBuf::from);
+    let folder = std::env::var_os("SALTLICKER_LIB")
+        .map_or(home.join("../../target/staticlib"), PathBuf::from);
     println!("cargo:rerun-if-env-changed=SALTLICKER_LIB");
     println!("cargo:rerun-if-changed={}", folder.join("libsaltlicker.a").display());
     println!("cargo:rustc-link-search=native={}", folder.display());
