@@ -1,6 +1,6 @@
 //! The desk: two tables and a record of seats, asked one request or many at a time.
 
-use crate::names::{code, CLEARED, DESK_WORDS, SEATS};
+use crate::names::{code, CLEARED, DESK_WORDS, RECORDS, SEATS};
 use crate::{raw, Answer, Event, Refusal, Request};
 
 /// A desk with tables of its own. Whatever words it is made of, a request is answered, or refused by number.
@@ -22,7 +22,9 @@ pub struct Reply {
 impl Desk {
     /// A cleared desk for records 0 to `records` - 1; refused 1 unless there are 1 to 4,096.
     pub fn new(records: usize) -> Result<Desk, Refusal> {
-        let mut desk = Desk::from_parts(vec![0; records], vec![0; records], [0; DESK_WORDS]);
+        // One word over the limit is refused as any more are, and can always be had.
+        let n = records.min(RECORDS + 1);
+        let mut desk = Desk::from_parts(vec![0; n], vec![0; n], [0; DESK_WORDS]);
         match code(raw::clear(&mut desk.held, &mut desk.released, &mut desk.words)) {
             CLEARED => Ok(desk),
             number => Err(Refusal(number)),

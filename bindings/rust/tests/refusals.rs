@@ -21,7 +21,7 @@ fn unchanged(mut desk: Desk, request: Request, number: u32) {
 
 #[test]
 fn one_for_the_tables() {
-    for records in [0, 4097] {
+    for records in [0, 4097, usize::MAX] {
         assert_eq!(Desk::new(records).unwrap_err(), Refusal(1));
     }
     for (held, released) in [(0, 0), (4097, 4097), (2, 3), (3, 2), (0, 1)] {

@@ -1,6 +1,7 @@
 //! Events: spellings on each side of a length, refusals 20 to 24, and that a refused write leaves the room.
 
-use saltlicker::{append_event, events, read_event, write_event, Event, Fault, Refusal};
+use saltlicker::names::*;
+use saltlicker::{append_event, events, raw, read_event, write_event, Event, Fault, Refusal};
 
 #[test]
 fn tickets_on_each_side_of_a_length() {
@@ -83,6 +84,20 @@ fn writing_is_refused_and_leaves_the_room() {
         assert!(room.iter().all(|&byte| byte == 7));
     }
     assert_eq!(write_event(&mut [0; 6], Event::Touched { ticket: good, record }), Ok(6));
+}
+
+#[test]
+fn the_raw_writer_knows_five_kinds_and_looks_at_the_record_of_three() {
+    let mut room = [7; 8];
+    for kind in [0, 6, 256, u32::MAX] {
+        assert_eq!(code(raw::write(&mut room, kind, 1, 1)), UNKNOWN_KIND);
+    }
+    assert_eq!(room, [7; 8]);
+    for (kind, answer) in
+        [(BEGIN, WRITTEN), (LOCK, 23), (TOUCH, 23), (RELEASE, 23), (FINISH, WRITTEN)]
+    {
+        assert_eq!(code(raw::write(&mut room, kind, 1, u32::MAX)), answer);
+    }
 }
 
 #[test]
