@@ -61,6 +61,9 @@ fn reading_is_refused_by_the_first_fault() {
     ];
     for (bytes, number) in faults {
         assert_eq!(read_event(bytes), Err(Refusal(number)), "{bytes:?}");
+        let mut event = [7; EVENT_WORDS];
+        raw::read(bytes, &mut event);
+        assert_eq!(event, [7; EVENT_WORDS]);
     }
     assert_eq!(read_event(&[]), Ok(None));
 }
