@@ -7,7 +7,8 @@
    otherwise.
 
    The calls allocate nothing and keep nothing from one to the next: a desk is its two tables and its words, and can be stored
-   and brought back as those. Threads that share a desk must take turns. */
+   and brought back as those. Threads that share a desk must take turns. The order and the two texts want 256 KiB of stack, more
+   than some small threads have; the other calls a few. */
 #ifndef SALTLICKER_H
 #define SALTLICKER_H
 
