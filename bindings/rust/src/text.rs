@@ -1,0 +1,21 @@
+//! What the two programs print, without running them.
+
+use crate::names::{DESK_TEXT, ORDER_TEXT};
+use crate::raw;
+
+/// What the desk program prints of a request file.
+pub fn desk_text(input: &[u8]) -> String {
+    text(DESK_TEXT, |out| raw::desk_text(input, out))
+}
+
+/// What the order program prints of a trace.
+pub fn order_text(trace: &[u8]) -> String {
+    text(ORDER_TEXT, |out| raw::order_text(trace, out))
+}
+
+fn text(room: usize, print: impl FnOnce(&mut [u8]) -> usize) -> String {
+    let mut out = vec![0; room];
+    let length = print(&mut out);
+    out.truncate(length);
+    String::from_utf8(out).expect("the programs print ASCII")
+}
