@@ -20,7 +20,8 @@ use Rattle.demands.specs.Runs.{good-run}
 use Rattle.text.specs.Lines.{refusedAt}
 use Rattle.text.specs.Places.{Placed, placed, puts}
 use Rattle.text.specs.PlaceLaws.{puts-join}
-use Rattle.clerk.specs.Limits.{fileBytes, roomBytes, eventBytes}
+use Rattle.trace.specs.Limits.{eventBytes}
+use Rattle.clerk.specs.Limits.{fileBytes, roomBytes}
 use Rattle.clerk.specs.Answers.{request, end, no-request, askedSaid}
 use Rattle.clerk.specs.Requests.{readRequest}
 use Rattle.clerk.specs.RequestLaws.{Here, request-here}

@@ -9,10 +9,6 @@ fileBytes = 16384
 abbrev pub deskRecords : ℕ
 deskRecords = 256
 
--- how many bytes an event takes at most: a kind byte and two numbers of three bytes
-abbrev pub eventBytes : ℕ
-eventBytes = 7
-
 -- how many bytes the trace of a request file takes at most: one event for each two bytes
 abbrev pub roomBytes : ℕ
 roomBytes = 57344

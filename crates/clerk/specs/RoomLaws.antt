@@ -1,4 +1,4 @@
--- Laws of the trace's room: an event takes at most seven bytes, and one that is noted stands behind those before it.
+-- Laws of the trace's room: an event that is noted stands behind those before it.
 use mathlib.Core.Path.{_≡_, refl, sym, ap, _∙_}
 use mathlib.Core.Bool.{true}
 use Prim.Native.Nat.{ℕ, _+_, _-_, _≤_}
@@ -15,39 +15,16 @@ use Rattle.trace.specs.declared.Writing.{Writing}
 use Rattle.trace.specs.Answers.{written, writingSaid}
 use Rattle.trace.specs.Numbers.{spellNumber}
 use Rattle.trace.specs.Events.{spell, fair, Wrote, wrote, writeAt}
-use Rattle.trace.specs.EventLaws.{write-done}
+use Rattle.trace.specs.EventLaws.{write-done, event-long}
 use Rattle.trace.specs.WriteLaws.{Puts, unfair, full, done, puts}
 use Rattle.trace.specs.History.{History}
 use Rattle.trace.specs.Traces.{spellAll, AllFair, more}
 use Rattle.desk.specs.Answers.{Said, started, wait, refused, granted, held, touched, released, finished}
 use Rattle.demands.specs.Run.{called}
-use Rattle.clerk.specs.Limits.{eventBytes}
+use Rattle.trace.specs.Limits.{eventBytes}
 use Rattle.clerk.specs.Rooms.{Filled, filled, took, behind, noteEvent, notes}
 use Rattle.demands.specs.Run.{traceOf}
 use Rattle.clerk.specs.Turns.{Traced}
-
--- ---- how long events are
-
--- a number takes at most three bytes
-number-long : (n : ℕ) → length (spellNumber n) ≤ 3
-unfolding spellNumber
-number-long n = either (λ (s : List ℕ). length s ≤ 3) (ltb n 128) (λ e. omega arith) (λ e. either (λ (s : List ℕ). length s ≤ 3) (ltb n 16384) (λ f. omega arith) (λ f. omega arith))
-
--- a kind byte and a ticket
-one-long : (k t : ℕ) → length (k ∷ spellNumber t) ≤ eventBytes
-one-long k t = omega (arith, number-long t)
-
--- a kind byte, a ticket and a record
-two-long : (k t r : ℕ) → length (k ∷ spellNumber t ++ spellNumber r) ≤ eventBytes
-two-long k t r = omega (arith, length-append (spellNumber t) (spellNumber r), number-long t, number-long r)
-
--- so an event takes at most seven
-pub event-long : (e : Event) → length (spell e) ≤ eventBytes
-event-long (Started t) = one-long 1 t
-event-long (Granted t r) = two-long 2 t r
-event-long (Touched t r) = two-long 3 t r
-event-long (Released t r) = two-long 4 t r
-event-long (Finished t) = one-long 5 t
 
 -- ---- what a trace is after one event more
 

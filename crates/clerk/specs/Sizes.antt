@@ -19,7 +19,8 @@ use Rattle.order.specs.Order.{orderOf}
 use Rattle.demands.specs.Run.{Moment, recordOf, next, afterAll}
 use Rattle.text.specs.Lines.{atWord, refusedAt}
 use Rattle.text.specs.LineLaws.{numeral-long, line-of-long}
-use Rattle.clerk.specs.Limits.{fileBytes, eventBytes, roomBytes, lineBytes, orderTextBytes, deskTextBytes}
+use Rattle.trace.specs.Limits.{eventBytes}
+use Rattle.clerk.specs.Limits.{fileBytes, roomBytes, lineBytes, orderTextBytes, deskTextBytes}
 use Rattle.clerk.specs.Answers.{AskedSaid, request, end, no-request}
 use Rattle.clerk.specs.Requests.{readRequest}
 use Rattle.clerk.specs.RequestLaws.{request-here}

@@ -12,7 +12,7 @@ use Rattle.desk.specs.Step.{State, Outcome, state, after, seatAt, seatOf, step}
 use Rattle.demands.specs.Run.{Moment, called, recordOf, next}
 use Rattle.demands.specs.Keeps.{keeps}
 use Rattle.text.specs.Places.{placed, puts}
-use Rattle.clerk.specs.Limits.{eventBytes}
+use Rattle.trace.specs.Limits.{eventBytes}
 use Rattle.clerk.specs.Lines.{line}
 use Rattle.clerk.specs.Rooms.{Filled, filled, notes}
 use Rattle.clerk.specs.RoomLaws.{called-few, called-traced}

@@ -10,7 +10,7 @@ use Rattle.desk.specs.Step.{state, step}
 use Rattle.demands.specs.Run.{Moment, next, afterAll}
 use Rattle.demands.specs.Keeps.{Good}
 use Rattle.text.specs.Places.{placed, puts}
-use Rattle.clerk.specs.Limits.{eventBytes}
+use Rattle.trace.specs.Limits.{eventBytes}
 use Rattle.clerk.specs.Lines.{line, lines}
 use Rattle.clerk.specs.Files.{Requests, answers, closing}
 use Rattle.demands.specs.Run.{traceOf}

@@ -14,7 +14,7 @@ use Rattle.trace.specs.Limits.{limit}
 use Rattle.desk.specs.Answers.{Said, started, wait, refused, held, granted, touched, released, finished, said, cleared, uncleared, Rule, allowed, told, rule}
 use Rattle.desk.specs.Step.{State, Outcome, state, outcome, after, clearOutcome, clearing, freeSeat, seatAt, seatSet, fitting, begunAt, beginStep, ruled, about, setBit, lockRule, withLock, lockStep, holdRule, touchStep, releaseStep, clearBit, leftWake, gone, finishStep, seatOf, kind, step}
 use Rattle.desk.specs.StepLaws.{seat-kept, fitting-same}
-use Rattle.desk.specs.Seats.{Locks, seatedAs, Touches, Releases}
+use Rattle.desk.specs.Seats.{Locks, Touches, Releases}
 use Rattle.desk.specs.declared.Seat.{Seat}
 use Rattle.desk.specs.declared.Desk.{Desk}
 use Rattle.desk.specs.declared.Answer.{Answer}
@@ -254,10 +254,10 @@ module _ (n : ℕ) (h l : List ℕ) (d : Desk) (q : Request) (f : Bool) (e : f �
   pub judge-finish : q ≡ Finish u → (o : Outcome) → o ≡ finishStep (state h l d) s → o ≡ step n (state h l d) q
   judge-finish p o w = arm (Finish u) p o (w ∙ ap (finishStep (state h l d)) (sym (same-seat (Finish u) p)))
 
-  pub judge-lock : (a : ℕ) → q ≡ Lock u a → (x : Locked) (h′ : List ℕ) → Locks h l s a (seatAt d s) x h′ → (r : Reply) → r ≡ seatedAs d s x → after r h′ l ≡ step n (state h l d) q
-  judge-lock a p x h′ w r z =
-      arm (Lock u a) p (after r h′ l)
-      (ap (λ (y : Reply). after y h′ l) z ∙ w .locks d refl ∙ ap (λ (t : ℕ). lockStep (state h l d) t a) (sym (same-seat (Lock u a) p)))
+  pub judge-lock : (a : ℕ) → q ≡ Lock u a → (x : Locked) (h′ : List ℕ) → Locks h l s a (seatAt d s) x h′ → outcome (said (x .answer)) (state h′ l (seatSet d s (x .seat))) ≡ step n (state h l d) q
+  judge-lock a p x h′ w =
+      arm (Lock u a) p (outcome (said (x .answer)) (state h′ l (seatSet d s (x .seat))))
+      (w .locks d refl ∙ ap (λ (t : ℕ). lockStep (state h l d) t a) (sym (same-seat (Lock u a) p)))
 
   pub judge-touch : (a : ℕ) → q ≡ Touch u a → (x : Said) → Touches h l s a (seatAt d s .live) x → outcome x (state h l d) ≡ step n (state h l d) q
   judge-touch a p x w =

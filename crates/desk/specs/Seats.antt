@@ -8,15 +8,10 @@ use Rattle.desk.specs.Step.{state, outcome, seatAt, seatSet, lockStep, t
 use Rattle.desk.specs.declared.Seat.{Seat}
 use Rattle.desk.specs.declared.Desk.{Desk}
 use Rattle.desk.specs.declared.Locked.{Locked}
-use Rattle.desk.specs.declared.Reply.{Reply}
 
 -- LOCK of record a by seat s, which is v, answers x, leaves x's seat, and leaves the held table k
 pub record Locks (h l : List ℕ) (s a : ℕ) (v : Seat) (x : Locked) (k : List ℕ) : Type 0 where
   pub locks : (d : Desk) → seatAt d s ≡ v → outcome (said (x .answer)) (state k l (seatSet d s (x .seat))) ≡ lockStep (state h l d) s a
-
--- the reply to it
-abbrev pub seatedAs : Desk → ℕ → Locked → Reply
-seatedAs d s x = record { answer = x .answer; desk = seatSet d s (x .seat) }
 
 -- TOUCH of record a by seat s, live or not, says x
 pub record Touches (h l : List ℕ) (s a : ℕ) (live : Bool) (x : Said) : Type 0 where

@@ -8,7 +8,7 @@ ghost use lib.ListN.{length};
 ghost use Rattle.desk.specs.Limits.{seats};
 ghost use Rattle.desk.specs.Answers.{number, said, rule};
 ghost use Rattle.desk.specs.Step.{state, after, opened, freeSeat, fitting, clearing, seatOf, beginStep, setBit, lockRule, withLock, holdRule, clearBit, leftWake, finishStep, step};
-ghost use Rattle.desk.specs.Seats.{Locks, seatedAs, Touches, Releases};
+ghost use Rattle.desk.specs.Seats.{Locks, Touches, Releases};
 
 // How many seats a desk has. It stands once more, in specs/Limits.antt.
 pub const SEATS: usize = 32;
@@ -197,21 +197,26 @@ pub fn judge(held: &mut [u32], released: &mut [u32], desk: Desk, request: Reques
         };
     }
     let i = s as usize;
-    let seat = desk.seats[i];
+    let mut next = desk;
+    let seat = next.seats[i];
     match request {
-        Request::Begin { seat: _ } => begin(desk, i),
+        Request::Begin { seat: _ } => begin(next, i),
         Request::Lock { seat: _, record } => {
-            seated(desk, i, lock(held, released, seat, s, record as usize))
+            let locked = lock(held, released, seat, s, record as usize);
+            let answer = locked.answer;
+            let left = locked.seat;
+            next.seats[i] = left;
+            Reply { answer, desk: next }
         }
         Request::Touch { seat: _, record } => {
             let answer = touch(held, released, seat.live, s, record as usize);
-            Reply { answer, desk }
+            Reply { answer, desk: next }
         }
         Request::Release { seat: _, record } => {
             let answer = release(held, released, seat.live, s, record as usize);
-            Reply { answer, desk }
+            Reply { answer, desk: next }
         }
-        Request::Finish { seat: _ } => finish(held, released, desk, s),
+        Request::Finish { seat: _ } => finish(held, released, next, s),
     }
 }
 
@@ -340,18 +345,6 @@ fn lock(held: &mut [u32], released: &[u32], seat: Seat, s: u32, a: usize) -> Loc
             }
         }
     }
-}
-
-// The reply to LOCK: the record with the seat that it left.
-fn seated(desk: Desk, i: usize, locked: Locked) -> Reply
-    requires { ⌜ i < seats ⌝ }
-    ensures { λ r. ⌜ r ≡ seatedAs desk i locked ⌝ }
-{
-    let answer = locked.answer;
-    let seat = locked.seat;
-    let mut next = desk;
-    next.seats[i] = seat;
-    Reply { answer, desk: next }
 }
 
 // TOUCH

@@ -15,7 +15,7 @@ use Rattle.words.specs.Rows.{word}
 use Rattle.words.specs.Parts.{Bytes}
 use Rattle.trace.specs.Answers.{event, written}
 use Rattle.trace.specs.Events.{spell, fair, readAt, Wrote, writeAt}
-use Rattle.trace.specs.EventLaws.{event-only}
+use Rattle.trace.specs.EventLaws.{event-only, event-long}
 use Rattle.trace.specs.WriteLaws.{Puts, unfair, full, done, puts}
 use Rattle.trace.specs.Traces.{spellAll}
 use Rattle.trace.specs.declared.Event.{Event}
@@ -28,8 +28,7 @@ use Rattle.order.specs.Answers.{OrderSaid}
 use Rattle.order.specs.Causes.{OrderCause, wrong-length, too-long, unread, far-ticket, ring}
 use Rattle.order.specs.Order.{orderOf}
 use Rattle.order.specs.Theorems.{causes}
-use Rattle.clerk.specs.Limits.{eventBytes}
-use Rattle.clerk.specs.RoomLaws.{event-long}
+use Rattle.trace.specs.Limits.{eventBytes}
 use Rattle.saltlicker.specs.Limits.{deskWords}
 use Rattle.saltlicker.specs.Lists.{each, each-length, each-at, Filling, fill-begin, fill-turn, fill-end}
 use Rattle.saltlicker.specs.DeskWords.{liveWord, lockedWord, wordsOf}

@@ -10,9 +10,6 @@ ghost use Rattle.desk.specs.Answers.{said, clearSaid};
 ghost use Rattle.desk.specs.Limits.{seats};
 ghost use Rattle.desk.specs.Step.{state};
 ghost use Rattle.order.specs.Answers.{orderSaid};
-ghost use Rattle.text.specs.Places.{placed, puts};
-ghost use Rattle.clerk.specs.Lines.{orderText};
-ghost use Rattle.clerk.specs.Files.{deskText};
 ghost use Rattle.saltlicker.specs.Limits.{deskWords, requestWords, eventWords};
 ghost use Rattle.saltlicker.specs.Answers.{coded, saidCode, clearCode, orderCode};
 ghost use Rattle.saltlicker.specs.Lists.{each};
@@ -359,22 +356,4 @@ pub extern "C" fn saltlicker_order(trace: &[u8], table: &mut [u32], list: &mut [
         Order::FarTicket { at } => code_of(27, at as u32),
         Order::Ring => code_of(28, 0),
     }
-}
-
-// ---- the texts
-
-// What the desk program prints of a request file, at the front of a text buffer, and how long it is; of a longer text as much as there is room for.
-#[no_mangle]
-pub extern "C" fn saltlicker_desk_text(input: &[u8], out: &mut [u8]) -> usize
-    ensures { λ r. ⌜ placed (now (out .exit)) r ≡ puts (deskText (now (input .entry))) (placed (now (out .entry)) 0) ⌝ }
-{
-    clerk::desk_text(input, out)
-}
-
-// What the order program prints of a trace, in the same way.
-#[no_mangle]
-pub extern "C" fn saltlicker_order_text(trace: &[u8], out: &mut [u8]) -> usize
-    ensures { λ r. ⌜ placed (now (out .exit)) r ≡ puts (orderText (now (trace .entry))) (placed (now (out .entry)) 0) ⌝ }
-{
-    clerk::order_text(trace, out)
 }

@@ -12,7 +12,7 @@ use native.Mathlib.Omega.{arith}
 use borrow.Author.Tests.{eqb-true, eqb-false, leb-true, ltb-true, ltb-false, not-true, ne-eqb, le-leb, lt-ltb}
 use Rattle.words.specs.Tests.{pick, below, either, and-iff, clash}
 use Rattle.words.specs.Parts.{Bytes, bytes-rest}
-use Rattle.trace.specs.Limits.{limit, records}
+use Rattle.trace.specs.Limits.{limit, records, eventBytes}
 use Rattle.trace.specs.Answers.{NumberSaid, value, no-value, ReadingSaid, event, end, no-event, written}
 use Rattle.trace.specs.Numbers.{spellNumber, readNumber}
 use Rattle.trace.specs.Events.{spell, fairTicket, fairPair, fair, asTicket, asRecord, readTicket, afterTicket, readPair, ofTicket, ofPair, byKind, readAt, Wrote, writeAt}
@@ -286,3 +286,26 @@ write-read e room {n} h = go (puts (fair e) (spell e) room) h
     go (unfair f) h = absurd (clash (cc))
     go (full f p) h = absurd (clash (cc))
     go (done f p) h = let k : length (spell e) ≡ n = cc in event-back e (drop (length (spell e)) room) f ∙ ap (λ (k : ℕ). event e k) k
+
+-- ---- how long events are
+
+-- a number takes at most three bytes
+number-long : (n : ℕ) → length (spellNumber n) ≤ 3
+unfolding spellNumber
+number-long n = either (λ (s : List ℕ). length s ≤ 3) (ltb n 128) (λ e. omega arith) (λ e. either (λ (s : List ℕ). length s ≤ 3) (ltb n 16384) (λ f. omega arith) (λ f. omega arith))
+
+-- a kind byte and a ticket
+one-long : (k t : ℕ) → length (k ∷ spellNumber t) ≤ eventBytes
+one-long k t = omega (arith, number-long t)
+
+-- a kind byte, a ticket and a record
+two-long : (k t r : ℕ) → length (k ∷ spellNumber t ++ spellNumber r) ≤ eventBytes
+two-long k t r = omega (arith, length-append (spellNumber t) (spellNumber r), number-long t, number-long r)
+
+-- so an event takes at most seven
+pub event-long : (e : Event) → length (spell e) ≤ eventBytes
+event-long (Started t) = one-long 1 t
+event-long (Granted t r) = two-long 2 t r
+event-long (Touched t r) = two-long 3 t r
+event-long (Released t r) = two-long 4 t r
+event-long (Finished t) = one-long 5 t

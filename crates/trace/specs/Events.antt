@@ -72,6 +72,19 @@ afterTicket l (no-value k) = no-pair k
 unfoldable pub readPair : List ℕ → PairSaid
 readPair l = afterTicket l (readTicket l)
 
+-- a ticket with no record behind it
+unfoldable pub alone : NumberSaid → PairSaid
+alone (value t n) = pair t 0 n
+alone (no-value k) = no-pair k
+
+-- kinds 2, 3, 4 have a record
+abbrev pub recorded : ℕ → Bool
+recorded k = leb 2 k && leb k 4
+
+-- the ticket and the record of a kind that has both, or the ticket
+unfoldable pub readNumbers : Bool → List ℕ → PairSaid
+readNumbers both l = pick both (readPair l) (alone (readTicket l))
+
 -- an event of its ticket alone, and of a ticket and a record
 unfoldable pub ofTicket : (ℕ → Event) → NumberSaid → ReadingSaid
 ofTicket e (value t n) = event (e t) n

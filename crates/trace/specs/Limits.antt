@@ -1,4 +1,4 @@
--- The paper's limits of numbers.
+-- The paper's limits of numbers, and how long an event is at most.
 use Prim.Native.Nat.{ℕ}
 
 -- the largest number, and so the largest ticket
@@ -8,3 +8,7 @@ limit = 65535
 -- how many records there may be: 0 to 4,095
 abbrev pub records : ℕ
 records = 4096
+
+-- how many bytes an event takes at most: a kind byte and two numbers of three bytes
+abbrev pub eventBytes : ℕ
+eventBytes = 7

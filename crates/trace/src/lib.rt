@@ -7,7 +7,7 @@ ghost use Rattle.words.specs.Parts.{over, lay};
 ghost use Rattle.trace.specs.Limits.{limit};
 ghost use Rattle.trace.specs.Answers.{number, numberSaid, readingSaid};
 ghost use Rattle.trace.specs.Numbers.{readNumber, spellNumber, judge};
-ghost use Rattle.trace.specs.Events.{fairTicket, fairPair, pairSaid, readAt, readTicket, asRecord, readPair, ofTicket, ofPair, put, wrote, writeAt};
+ghost use Rattle.trace.specs.Events.{fairTicket, fairPair, pairSaid, readAt, readTicket, asRecord, recorded, readNumbers, ofPair, put, wrote, writeAt};
 
 // The largest number, and so the largest ticket. It stands once more, in specs/Limits.antt.
 pub const LIMIT: u32 = 65535;
@@ -83,29 +83,38 @@ pub fn read(rest: &[u8]) -> Reading
         return Reading::End;
     }
     let kind = rest[0];
+    let read = numbers(rest, has_record(kind));
     match kind {
-        1 => started(ticket(rest)),
-        2 => granted(pair(rest)),
-        3 => touched(pair(rest)),
-        4 => released(pair(rest)),
-        5 => finished(ticket(rest)),
+        1 => started(read),
+        2 => granted(read),
+        3 => touched(read),
+        4 => released(read),
+        5 => finished(read),
         _ => Reading::Unread(Fault::Kind),
     }
 }
 
+// A kind that has a record after its ticket.
+fn has_record(kind: u8) -> bool
+    ensures { λ r. ⌜ r ≡ recorded kind ⌝ }
+{
+    2 <= kind && kind <= 4
+}
+
 // A started event, by the ticket that was read.
-fn started(read: Numeral) -> Reading
-    ensures { λ r. ⌜ readingSaid r ≡ ofTicket Event.Started (numberSaid read) ⌝ }
+fn started(read: Couple) -> Reading
+    ensures { λ r. ⌜ readingSaid r ≡ ofPair (λ t r. Event.Started t) (pairSaid read) ⌝ }
 {
     match read {
-        Numeral::Value {
-            number: ticket,
+        Couple::Both {
+            ticket,
+            record: _,
             length,
         } => Reading::Found {
             event: Event::Started { ticket },
             length,
         },
-        Numeral::Bad(f) => Reading::Unread(f),
+        Couple::Wrong(f) => Reading::Unread(f),
     }
 }
 
@@ -161,18 +170,19 @@ fn released(read: Couple) -> Reading
 }
 
 // A finished event.
-fn finished(read: Numeral) -> Reading
-    ensures { λ r. ⌜ readingSaid r ≡ ofTicket Event.Finished (numberSaid read) ⌝ }
+fn finished(read: Couple) -> Reading
+    ensures { λ r. ⌜ readingSaid r ≡ ofPair (λ t r. Event.Finished t) (pairSaid read) ⌝ }
 {
     match read {
-        Numeral::Value {
-            number: ticket,
+        Couple::Both {
+            ticket,
+            record: _,
             length,
         } => Reading::Found {
             event: Event::Finished { ticket },
             length,
         },
-        Numeral::Bad(f) => Reading::Unread(f),
+        Couple::Wrong(f) => Reading::Unread(f),
     }
 }
 
@@ -198,16 +208,25 @@ fn ticket(rest: &[u8]) -> Numeral
     }
 }
 
-// The ticket and the record of the event at the front, with its length.
-fn pair(rest: &[u8]) -> Couple
+// The ticket of the event at the front, and the record behind it where its kind has one, with the event's length.
+fn numbers(rest: &[u8], both: bool) -> Couple
     requires { ⌜ 0 < length (now rest) ⌝ }
-    ensures { λ r. ⌜ pairSaid r ≡ readPair (now (rest .entry)) ⌝ }
+    ensures { λ r. ⌜ pairSaid r ≡ readNumbers both (now (rest .entry)) ⌝ }
 {
     match ticket(rest) {
         Numeral::Value {
             number: t,
             length: n,
-        } => record(&rest[n..], t, n),
+        } => {
+            if both {
+                return record(&rest[n..], t, n);
+            }
+            Couple::Both {
+                ticket: t,
+                record: 0,
+                length: n,
+            }
+        }
         Numeral::Bad(f) => Couple::Wrong(f),
     }
 }

@@ -43,8 +43,11 @@ cast-lock c = search needs
 lock-requires : tie.Need-lock-requires
 lock-requires c κs = search (needs, same-long)
 
-seated-requires : tie.Need-seated-requires
-seated-requires c κs = search needs
+mul-left : tie.Need-mul-left
+mul-left c = search needs
+
+element-set-from-left : tie.Need-element-set-from-left
+element-set-from-left c = search needs
 
 enum-known-request-2 : tie.Need-enum-known-request-2
 enum-known-request-2 c = search needs
@@ -80,7 +83,7 @@ same-length-2 : tie.Need-same-length-2
 same-length-2 c = search needs
 
 returns-4 : tie.Need-returns-4
-returns-4 c = search (judge-lock, c .seated .ensures, c .before .before .before .lock .ensures)
+returns-4 c = search judge-lock
 
 same-length-3 : tie.Need-same-length-3
 same-length-3 c = search needs
@@ -126,7 +129,8 @@ judge-spec =
     enum-known-request
     cast-lock
     lock-requires
-    seated-requires
+    mul-left
+    element-set-from-left
     enum-known-request-2
     cast-touch
     touch-requires

@@ -1,5 +1,5 @@
 -- `trace::finished` meets its contract: in each arm the parameter is the constructor that the arm names.
-use Rattle.trace.specs.Events.{ofTicket}
+use Rattle.trace.specs.Events.{ofPair}
 use borrow.Author.Needs.{needs}
 use Rattle.trace.proofs.finished.Statement.{statement}
 use Rattle.trace.proofs.finished.Tie as tie
@@ -11,11 +11,11 @@ enum-known-read-2 : tie.Need-enum-known-read-2
 enum-known-read-2 c = search needs
 
 returns : tie.Need-returns
-unfolding ofTicket
+unfolding ofPair
 returns c = cc
 
 returns-2 : tie.Need-returns-2
-unfolding ofTicket
+unfolding ofPair
 returns-2 c = cc
 
 pub finished-spec : {M : Type 1} → statement M
