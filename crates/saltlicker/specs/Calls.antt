@@ -1,5 +1,5 @@
 -- What each exported call gives and leaves, by the definitions of the calls below it.
-use mathlib.Core.Bool.{Bool, _&&_}
+use mathlib.Core.Bool.{_&&_}
 use mathlib.Core.List.{List, [], _∷_}
 use Prim.Native.Nat.{ℕ, zero, suc, _+_, _*_}
 use lib.Dec.{eqb}
@@ -12,7 +12,6 @@ use Rattle.trace.specs.declared.Event.the-variants.{Started, Granted, Touched, 
 use Rattle.desk.specs.Limits.{seats}
 use Rattle.desk.specs.Answers.{refused}
 use Rattle.desk.specs.Step.{State, state, Outcome, outcome, ClearOutcome, clearing, step}
-use Rattle.desk.specs.declared.Request.{Request}
 use Rattle.desk.specs.declared.Request.the-variants.{Begin, Lock, Touch, Release, Finish}
 use Rattle.order.specs.Answers.{Call}
 use Rattle.order.specs.Order.{orderOf}
