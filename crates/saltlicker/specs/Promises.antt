@@ -86,15 +86,16 @@ coded-back c v h = (omega arith, omega arith)
 unfoldable pub heard : {A : Type 0} → (ℕ → ℕ → A) → ℕ → A
 heard f n = f (n / 4294967296) (n % 4294967296)
 
+-- of a number that a code and a value make, it makes of them
 heard-coded : {A : Type 0} (f : ℕ → ℕ → A) (c v : ℕ) → v < 4294967296 → heard f (coded c v) ≡ f c v
 unfolding heard
 heard-coded f c v h = let e = coded-back c v h in rw (e .0, e .1)
 
--- a refusal's number is below every other code
+-- a refusal's number is below 99, and every other code above
 low : {A : Type 0} (c n : ℕ) (x y : A) → c < 99 → 99 < n → cond (eqb c n) x y ≡ y
 low c n x y h g = rw (ne-eqb c n (λ e. omega arith))
 
--- `saltlicker_clear`
+-- what `saltlicker_clear` says, by code and value
 abbrev pub clearBy : ℕ → ℕ → ClearSaid
 clearBy c v = cond (eqb c 203) cleared (uncleared c)
 
@@ -102,11 +103,12 @@ clearing-heard : (h l : List ℕ) → heard clearBy (clearCode (clearing seats h
 unfolding heard clearing
 clearing-heard h l = either (λ (o : ClearOutcome). heard clearBy (clearCode (o .says)) ≡ o .says) (not (fitting (length h) (length l))) (λ e. refl) (λ e. refl)
 
+-- is what the clearing says
 pub clear-heard : (h l d : List ℕ) → length d ≡ deskWords → heard clearBy (clearCall h l d .says) ≡ clearing seats h l .says
 unfolding clearCall pick
 clear-heard h l d e = rw (eq-eqb (length d) deskWords e) (clearing-heard h l)
 
--- `saltlicker_judge`, each answer
+-- what `saltlicker_judge` says to a request
 abbrev pub saidBy : ℕ → ℕ → Said
 saidBy c v =
     cond (eqb c 101) (started v) (cond (eqb c 102) granted (cond (eqb c 103) touched (cond (eqb c 104) released
@@ -150,10 +152,11 @@ module _ (st : State) where
   plain (Known q) = either (Plain st) _ (λ e. stays refl) (λ e. either (Plain st) _ (λ l. stays refl) (λ l. plain-kind q))
   plain Unknown = stays refl
 
+-- answer i is what the desk says to request i
 pub answer-heard : (st : State) (q : List ℕ) (i : ℕ) → heard saidBy (answerAt st q i) ≡ judged (stateAt st q i) (askedAt q i) .says
 answer-heard st q i = plain (stateAt st q i) (askedAt q i) .back
 
--- `saltlicker_read`: the event is told from the words that are left
+-- the event that three words are
 abbrev pub eventBy : List ℕ → Event
 eventBy w =
     cond (eqb (getD w 0 0) 1) (Started (getD w 1 0)) (cond (eqb (getD w 0 0) 2) (Granted (getD w 1 0) (getD w 2 0))
@@ -167,9 +170,11 @@ row-back (Touched t a) = refl
 row-back (Released t a) = refl
 row-back (Finished t) = refl
 
+-- what `saltlicker_read` says, with the three words as it leaves them
 abbrev pub readBy : List ℕ → ℕ → ℕ → ReadingSaid
 readBy w c v = cond (eqb c 205) (event (eventBy w) v) (cond (eqb c 206) end (no-event c))
 
+-- refusals 20 to 23
 low-number : {k : ℕ} {l : List ℕ} → NoNumber k l → k < 99
 low-number cut-first = omega arith
 low-number (cut-second a) = omega arith
@@ -186,6 +191,7 @@ low-read (ticket-zero k f) = omega arith
 low-read (no-record k f n m) = low-number m
 low-read (record-over k f n g m) = omega arith
 
+-- is what the reading says, event and length
 pub read-heard : (rest w : List ℕ) → Bytes rest → length w ≡ eventWords → heard (readBy (readCall rest w .event)) (readCall rest w .says) ≡ readAt rest
 unfolding readCall pick heard
 read-heard rest w by e = rw (eq-eqb (length w) eventWords e) (go (readAt rest) refl)
@@ -197,10 +203,11 @@ read-heard rest w by e = rw (eq-eqb (length w) eventWords e) (go (readAt rest) r
         let m : k < 99 = low-read (read-refused rest by k .0 p) in
         heard-coded (readBy w) k 0 (omega arith) ∙ low k 205 _ _ m (omega arith) ∙ low k 206 _ _ m (omega arith)
 
--- `saltlicker_write`, of an event by its kind, as it is read
+-- what `saltlicker_write` says
 abbrev pub writeBy : ℕ → ℕ → WritingSaid
 writeBy c v = cond (eqb c 207) (written v) (unwritten c)
 
+-- an event's three words, as they are read, are what writes it
 pub write-row : (e : Event) (room : List ℕ) → writeCall room (getD (row e) 0 0) (getD (row e) 1 0) (getD (row e) 2 0) ≡ wroteAs (writeAt e room)
 unfolding writeCall pick
 write-row (Started t) room = refl
@@ -209,6 +216,7 @@ write-row (Touched t a) room = refl
 write-row (Released t a) room = refl
 write-row (Finished t) room = refl
 
+-- is what the writing says
 pub write-heard : (e : Event) (room : List ℕ) → heard writeBy (wroteAs (writeAt e room) .says) ≡ writeAt e room .says
 unfolding heard
 write-heard e room = go (puts (fair e) (spell e) room) refl
@@ -218,10 +226,11 @@ write-heard e room = go (puts (fair e) (spell e) room) refl
     go (full f p) q = refl
     go (done f p) q = heard-coded writeBy 207 (length (spell e)) (written-small e room (ap (λ (w : Wrote). w .says) q))
 
--- `saltlicker_order`
+-- what `saltlicker_order` says
 abbrev pub orderBy : ℕ → ℕ → OrderSaid
 orderBy c v = cond (eqb c 208) (ordered v) (OrderSaid.refused c v)
 
+-- refusals 20 to 23 and 25 to 28
 low-order : {trace table list : List ℕ} {k at : ℕ} → OrderCause trace table list k at → k < 99
 low-order (wrong-length n) = omega arith
 low-order (too-long f l) = omega arith
@@ -229,6 +238,7 @@ low-order (unread f l b c) = low-read c
 low-order (far-ticket f l b r t) = omega arith
 low-order (ring f l b r) = omega arith
 
+-- is what the order call says: how many, or a refusal with its offset
 pub order-heard : (trace table list : List ℕ) → Bytes trace → heard orderBy (orderCall trace table list .says) ≡ orderOf trace table list .says
 order-heard trace table list by = go (orderOf trace table list .says) refl
   where
@@ -254,10 +264,12 @@ each-parts n m f g h a b =
         each-at (n + m) f (n + i) 0 (omega arith) ∙ b i ∙ sym (ap (λ (k : ℕ). getD (each n g ++ each m h) k 0) e ∙ getD-append-add (each n g) (each m h) i 0 ∙ each-at m h i 0 lt)
 
 module _ (st : State) (q₁ q₂ : List ℕ) (n : ℕ) (long : length q₁ ≡ requestWords * n) where
+  -- request i of both is request i of the first
   asked-front : (i : ℕ) → i < n → askedAt (q₁ ++ q₂) i ≡ askedAt q₁ i
   asked-front i lt =
       rw (List·getD-append q₁ q₂ 0 (3 * i) (omega arith), List·getD-append q₁ q₂ 0 (3 * i + 1) (omega arith), List·getD-append q₁ q₂ 0 (3 * i + 2) (omega arith))
 
+  -- request n + i of both is request i of the second
   asked-back : (i : ℕ) → askedAt (q₁ ++ q₂) (n + i) ≡ askedAt q₂ i
   asked-back i =
       let a : 3 * (n + i) ≡ length q₁ + 3 * i = omega arith in
@@ -302,6 +314,7 @@ abbrev pub joined : Judged → Judged → Judged
 joined o p = leftJudged (p .says) (p .held) (p .released) (p .desk) (o .answers ++ p .answers)
 
 module _ (h l d q₁ q₂ a₁ a₂ : List ℕ) (e : length d ≡ deskWords) (f : length q₁ ≡ requestWords * length a₁) (g : length q₂ ≡ requestWords * length a₂) where
+  -- what the first leaves
   left : State
   left = stateAt (state h l (deskOf d)) q₁ (length a₁)
 
