@@ -1,12 +1,12 @@
 -- Laws of the calls: lengths and offsets fit the value of an answer, and what the loops over seats and requests keep.
-use Prim.Native.Nat.{ℕ, suc, _+_, _*_, _<_, _^_}
+use Prim.Native.Nat.{ℕ, _+_, _*_, _<_, _^_}
 use mathlib.Core.Path.{_≡_, refl, sym, ap, _∙_}
 use mathlib.Core.Bool.{Bool, true, false}
-use mathlib.Core.List.{List, _++_}
+use mathlib.Core.List.{List}
 use native.Mathlib.Omega.{arith}
 use native.Mathlib.Numerals.{add-one}
 use lib.Bits.{bitOr, or-zero-l, or-comm}
-use lib.ListN.{length, getD, set, length-append}
+use lib.ListN.{length, set, length-append}
 use lib.Seq.{length-take-le}
 use Rattle.words.specs.Tests.{pick, clash}
 use Rattle.words.specs.Word.{put, with}
@@ -21,19 +21,16 @@ use Rattle.trace.specs.Traces.{spellAll}
 use Rattle.trace.specs.declared.Event.{Event}
 use Rattle.desk.specs.Limits.{seats}
 use Rattle.desk.specs.Step.{State, state, seatAt}
-use Rattle.desk.specs.declared.Seat.{Seat}
 use Rattle.desk.specs.declared.Desk.{Desk}
-use Rattle.order.specs.Limits.{longest}
 use Rattle.order.specs.Answers.{OrderSaid}
 use Rattle.order.specs.Causes.{OrderCause, wrong-length, too-long, unread, far-ticket, ring}
 use Rattle.order.specs.Order.{orderOf}
 use Rattle.order.specs.Theorems.{causes}
-use Rattle.trace.specs.Limits.{eventBytes}
 use Rattle.saltlicker.specs.Limits.{deskWords}
 use Rattle.saltlicker.specs.Lists.{each, each-length, each-at, Filling, fill-begin, fill-turn, fill-end}
-use Rattle.saltlicker.specs.DeskWords.{liveWord, lockedWord, wordsOf}
+use Rattle.saltlicker.specs.DeskWords.{wordsOf}
 use Rattle.saltlicker.specs.DeskLaws.{words-long, ticket-at, wake-at, live-at, locked-at, begun-at}
-use Rattle.saltlicker.specs.Calls.{asking, askedAt, judged, stateAt, answerAt, Told, told, turnedAs}
+use Rattle.saltlicker.specs.Calls.{askedAt, judged, stateAt, answerAt, Told, told, turnedAs}
 use Rattle.saltlicker.specs.declared.Asked.{Asked}
 use Rattle.saltlicker.specs.declared.Turned.{Turned}
 

@@ -1,5 +1,5 @@
 -- What each exported call gives and leaves, by the definitions of the calls below it.
-use mathlib.Core.Bool.{Bool, _&&_}
+use mathlib.Core.Bool.{_&&_}
 use mathlib.Core.List.{List, [], _∷_}
 use Prim.Native.Nat.{ℕ, zero, suc, _+_, _*_}
 use lib.Dec.{eqb}
@@ -12,7 +12,6 @@ use Rattle.trace.specs.declared.Event.the-variants.{Started, Granted, Touched, 
 use Rattle.desk.specs.Limits.{seats}
 use Rattle.desk.specs.Answers.{refused}
 use Rattle.desk.specs.Step.{State, state, Outcome, outcome, ClearOutcome, clearing, step}
-use Rattle.desk.specs.declared.Request.{Request}
 use Rattle.desk.specs.declared.Request.the-variants.{Begin, Lock, Touch, Release, Finish}
 use Rattle.order.specs.Answers.{Call}
 use Rattle.order.specs.Order.{orderOf}
@@ -27,20 +26,20 @@ use Rattle.saltlicker.specs.declared.Turned.{Turned}
 -- ---- saltlicker_clear
 
 -- the answer, and both tables and the desk words as they are left
-pub record Cleared : Type 0 where
+pub record ClearLeft : Type 0 where
   pub says : ℕ
   pub held : List ℕ
   pub released : List ℕ
   pub desk : List ℕ
 
-abbrev pub leftCleared : ℕ → List ℕ → List ℕ → List ℕ → Cleared
+abbrev pub leftCleared : ℕ → List ℕ → List ℕ → List ℕ → ClearLeft
 leftCleared r h l d = record { says = r; held = h; released = l; desk = d }
 
 -- a clearing, with its record as words
-abbrev pub clearedAs : ClearOutcome → Cleared
+abbrev pub clearedAs : ClearOutcome → ClearLeft
 clearedAs o = leftCleared (clearCode (o .says)) (o .left .held) (o .left .released) (wordsOf (o .left .desk))
 
-unfoldable pub clearCall : List ℕ → List ℕ → List ℕ → Cleared
+unfoldable pub clearCall : List ℕ → List ℕ → List ℕ → ClearLeft
 clearCall h l d = pick (eqb (length d) deskWords) (clearedAs (clearing seats h l)) (leftCleared wrongLength h l d)
 
 -- ---- saltlicker_judge
@@ -74,22 +73,22 @@ abbrev pub answerAt : State → List ℕ → ℕ → ℕ
 answerAt st q i = saidCode (judged (stateAt st q i) (askedAt q i) .says)
 
 -- the answer, the tables, the desk words and the answers as they are left
-pub record Judged : Type 0 where
+pub record JudgeLeft : Type 0 where
   pub says : ℕ
   pub held : List ℕ
   pub released : List ℕ
   pub desk : List ℕ
   pub answers : List ℕ
 
-abbrev pub leftJudged : ℕ → List ℕ → List ℕ → List ℕ → List ℕ → Judged
+abbrev pub leftJudged : ℕ → List ℕ → List ℕ → List ℕ → List ℕ → JudgeLeft
 leftJudged r h l d a = record { says = r; held = h; released = l; desk = d; answers = a }
 
 -- n requests
-abbrev pub judgedAll : State → List ℕ → ℕ → Judged
+abbrev pub judgedAll : State → List ℕ → ℕ → JudgeLeft
 judgedAll st q n =
     leftJudged judgedCode (stateAt st q n .held) (stateAt st q n .released) (wordsOf (stateAt st q n .desk)) (each n (answerAt st q))
 
-unfoldable pub judgeCall : List ℕ → List ℕ → List ℕ → List ℕ → List ℕ → Judged
+unfoldable pub judgeCall : List ℕ → List ℕ → List ℕ → List ℕ → List ℕ → JudgeLeft
 judgeCall h l d q a =
     pick (eqb (length d) deskWords && eqb (length q) (requestWords * length a)) (judgedAll (state h l (deskOf d)) q (length a))
     (leftJudged wrongLength h l d a)

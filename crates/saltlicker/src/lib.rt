@@ -1,17 +1,16 @@
 // The calls for other languages: numbers and slices in, one number out. Each has the promise of the call below it.
 ghost use mathlib.Core.Path.{_≡_};
 ghost use mathlib.Core.List.{[], _∷_};
-ghost use Prim.Native.Nat.{ℕ, _<_, _*_, _+_};
-ghost use lib.ListN.{length, getD, set};
+ghost use Prim.Native.Nat.{_<_, _*_};
+ghost use lib.ListN.{length, set};
 ghost use Rattle.words.specs.Tests.{pick};
 ghost use Rattle.words.specs.Word.{put};
 ghost use Rattle.trace.specs.Events.{writeAt};
 ghost use Rattle.desk.specs.Answers.{said, clearSaid};
 ghost use Rattle.desk.specs.Limits.{seats};
 ghost use Rattle.desk.specs.Step.{state};
-ghost use Rattle.order.specs.Answers.{orderSaid};
 ghost use Rattle.saltlicker.specs.Limits.{deskWords, requestWords, eventWords};
-ghost use Rattle.saltlicker.specs.Answers.{coded, saidCode, clearCode, orderCode};
+ghost use Rattle.saltlicker.specs.Answers.{coded, saidCode, clearCode};
 ghost use Rattle.saltlicker.specs.Lists.{each};
 ghost use Rattle.saltlicker.specs.DeskWords.{seatIn, deskOf, wordsOf};
 ghost use Rattle.saltlicker.specs.Calls.{leftCleared, clearCall, asking, judged, stateAt, answerAt, leftJudged, judgeCall, told, turnedAs, row, leftRead, readCall, leftWrite, wroteAs, writeCall, leftOrder, orderCall};

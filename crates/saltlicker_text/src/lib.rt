@@ -1,4 +1,4 @@
-// What the two programs print, for other languages: bytes in, text out. An archive of its own, so that the other calls stay small.
+// What the two programs print, for other languages: bytes in, text out. The contracts are the clerk's, and so are the promises (`one-desk-text`, `one-order-text`).
 ghost use mathlib.Core.Path.{_≡_};
 ghost use Rattle.text.specs.Places.{placed, puts};
 ghost use Rattle.clerk.specs.Lines.{orderText};

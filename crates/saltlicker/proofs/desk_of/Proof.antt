@@ -4,7 +4,7 @@ use mathlib.Core.List.{List}
 use Prim.Native.Nat.{ℕ}
 use native.Mathlib.Omega.{arith}
 use Prim.Native.Nat.{_+_, _-_, _<_, _≤_}
-use lib.ListN.{length, getD, set}
+use lib.ListN.{getD, set}
 use Rattle.desk.specs.Limits.{seats}
 use Rattle.desk.specs.Step.{freeSeat}
 use Rattle.desk.specs.declared.Seat.{Seat}

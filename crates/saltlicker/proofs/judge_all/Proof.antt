@@ -1,7 +1,6 @@
 -- `saltlicker::judge_all` meets its contract: a loop over the requests.
 use mathlib.Core.Path.{_≡_}
 use Prim.Native.Nat.{_-_, _≤_, _*_}
-use native.Mathlib.Omega.{arith}
 use lib.ListN.{length}
 use Rattle.desk.specs.Step.{state}
 use Rattle.saltlicker.specs.Limits.{requestWords}

@@ -4,8 +4,7 @@ use Prim.Native.Nat.{ℕ}
 use mathlib.Core.List.{List}
 use Prim.Native.Nat.{_<_}
 use mathlib.Core.Path.{sym, ap, _∙_}
-use native.Mathlib.Omega.{arith}
-use Rattle.trace.specs.Answers.{number, written, writingSaid}
+use Rattle.trace.specs.Answers.{number, writingSaid}
 use Rattle.trace.specs.Events.{Wrote, wrote, writeAt}
 use Rattle.trace.specs.declared.Event.{Event}
 use Rattle.trace.specs.declared.Fault.{Fault}

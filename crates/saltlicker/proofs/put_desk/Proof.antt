@@ -1,7 +1,6 @@
 -- `saltlicker::put_desk` meets its contract: a loop that packs the seats, and three words more.
 use mathlib.Core.Path.{_≡_}
 use Prim.Native.Nat.{_-_, _≤_}
-use native.Mathlib.Omega.{arith}
 use lib.ListN.{length}
 use Rattle.desk.specs.Limits.{seats}
 use Rattle.saltlicker.specs.Limits.{deskWords}

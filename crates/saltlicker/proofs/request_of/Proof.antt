@@ -4,7 +4,6 @@ use Prim.Native.Nat.{ℕ}
 use Rattle.words.specs.Tests.{pick, tests}
 use Rattle.saltlicker.specs.Calls.{asking}
 use Rattle.saltlicker.specs.declared.Asked.{Asked}
-use borrow.Author.Needs.{needs}
 use Rattle.saltlicker.proofs.request_of.Statement.{statement}
 use Rattle.saltlicker.proofs.request_of.Tie as tie
 

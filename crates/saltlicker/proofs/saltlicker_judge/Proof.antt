@@ -7,7 +7,7 @@ use native.Mathlib.Omega.{arith}
 use borrow.Author.Tests.{eq-eqb, ne-eqb}
 use lib.ListN.{length}
 use Rattle.words.specs.Tests.{pick}
-use Rattle.desk.specs.Step.{State, state}
+use Rattle.desk.specs.Step.{state}
 use Rattle.desk.specs.declared.Desk.{Desk}
 use Rattle.saltlicker.specs.Limits.{deskWords, requestWords}
 use Rattle.saltlicker.specs.Answers.{coded}

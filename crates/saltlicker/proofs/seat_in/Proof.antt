@@ -6,7 +6,6 @@ use mathlib.Core.Bool.{Bool}
 use Prim.Native.Nat.{_+_, _*_}
 use lib.ListN.{getD}
 use Rattle.words.specs.Word.{has}
-use Rattle.desk.specs.declared.Seat.{Seat}
 use Rattle.saltlicker.specs.DeskWords.{seatIn}
 use borrow.Author.Needs.{needs}
 use Rattle.saltlicker.proofs.seat_in.Statement.{statement}
