@@ -57,7 +57,8 @@ impl Program {
         room.fill(MARK);
         let length = (self.proved)(file, room);
         let (front, rest) = room.split_at_checked(length)?;
-        let same = front == text.as_bytes() && rest.iter().all(|&byte| byte == MARK);
+        let same =
+            front == text.as_bytes() && rest.iter().filter(|&&byte| byte != MARK).count() == 0;
         same.then_some(text)
     }
 

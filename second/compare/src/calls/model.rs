@@ -118,11 +118,7 @@ fn judge(
     for (request, answer) in requests.chunks(3).zip(answers) {
         *answer = match request_of(request) {
             None => UNKNOWN_KIND,
-            Some(request) => {
-                let (said, tables_after, record_after) = desk::step(&tables, &record, request);
-                (tables, record) = (tables_after, record_after);
-                answer_number(said)
-            }
+            Some(request) => answer_number(desk::judge(&mut tables, &mut record, request)),
         };
     }
     held.copy_from_slice(&tables.held);
