@@ -124,16 +124,21 @@ pub fn hold(script: scripts::Script, proved: &Calls, tally: &mut Tally) -> Resul
 /// What differs first between what the second side and the proved one gave and left.
 fn first_difference(second: (u64, &Lent), proved: (u64, &Lent)) -> String {
     let (one, other) = (second.1, proved.1);
-    let found = place("answer", &[second.0], &[proved.0])
+    let found = place("answer", &codes(&[second.0]), &codes(&[proved.0]))
+        .or(place("answers", &codes(&one.answers), &codes(&other.answers)))
         .or(place("held", &one.held, &other.held))
         .or(place("released", &one.released, &other.released))
         .or(place("desk", &one.desk, &other.desk))
-        .or(place("answers", &one.answers, &other.answers))
         .or(place("event", &one.event, &other.event))
         .or(place("bytes", &one.bytes, &other.bytes))
         .or(place("table", &one.table, &other.table))
         .or(place("list", &one.list, &other.list));
     found.expect("something differs")
+}
+
+/// Answers as their codes and values.
+fn codes(answers: &[u64]) -> Vec<(u32, u32)> {
+    answers.iter().map(|&answer| ((answer >> 32) as u32, answer as u32)).collect()
 }
 
 fn place<T: PartialEq + Debug>(name: &str, second: &[T], proved: &[T]) -> Option<String> {

@@ -3,23 +3,33 @@
 use second::gen::{piece, Pieces};
 use second::request::read_request;
 
-/// After so many tries the file is small enough to read, or each try takes too long.
-const MOST_TRIES: u32 = 30_000;
+/// So many bytes are tried in all: a minute or so for a file that stays long, plenty for others.
+const MOST_BYTES: usize = 50_000_000;
+
+/// What is searched for, and how many more bytes may be tried.
+struct Search<F> {
+    differs: F,
+    left: usize,
+}
+
+impl<F: FnMut(&[u8]) -> bool> Search<F> {
+    /// Whether the file of these pieces still differs.
+    fn finds(&mut self, pieces: &Pieces) -> bool {
+        let file = pieces.concat();
+        self.left = self.left.saturating_sub(file.len());
+        (self.differs)(&file)
+    }
+}
 
 /// The smallest file found that still differs, starting from one that does.
-pub fn shrink(file: Vec<u8>, mut differs: impl FnMut(&[u8]) -> bool) -> Vec<u8> {
-    let mut tries = 0;
-    let mut differs = |file: &[u8]| {
-        tries += 1;
-        tries <= MOST_TRIES && differs(file)
-    };
-    let mut file = file;
+pub fn shrink(mut file: Vec<u8>, differs: impl FnMut(&[u8]) -> bool) -> Vec<u8> {
+    let mut search = Search { differs, left: MOST_BYTES };
     // Each change makes the file shorter, or as long and lower when read from its end: it ends.
     loop {
         let before = file.clone();
         for split in [whole, single] {
-            let pieces = drop_runs(split(&file), &mut differs);
-            file = lower(pieces, &mut differs).concat();
+            let pieces = drop_runs(split(&file), &mut search);
+            file = lower(pieces, &mut search).concat();
         }
         if file == before {
             return file;
@@ -45,14 +55,14 @@ fn single(file: &[u8]) -> Pieces {
 }
 
 /// Drops runs of pieces, long runs first and from the end, while the file still differs.
-fn drop_runs(mut pieces: Pieces, differs: &mut impl FnMut(&[u8]) -> bool) -> Pieces {
+fn drop_runs<F: FnMut(&[u8]) -> bool>(mut pieces: Pieces, search: &mut Search<F>) -> Pieces {
     let mut run = pieces.len();
     while run > 0 {
         let mut end = pieces.len();
-        while end > 0 {
+        while end > 0 && search.left > 0 {
             let start = end.saturating_sub(run);
             let fewer = [&pieces[..start], &pieces[end..]].concat();
-            if differs(&fewer.concat()) {
+            if search.finds(&fewer) {
                 pieces = fewer;
             }
             end = start;
@@ -63,22 +73,27 @@ fn drop_runs(mut pieces: Pieces, differs: &mut impl FnMut(&[u8]) -> bool) -> Pie
 }
 
 /// Lowers the numbers of each piece while the file still differs.
-fn lower(mut pieces: Pieces, differs: &mut impl FnMut(&[u8]) -> bool) -> Pieces {
+fn lower<F: FnMut(&[u8]) -> bool>(mut pieces: Pieces, search: &mut Search<F>) -> Pieces {
     for place in 0..pieces.len() {
-        let mut found = true;
-        while found {
-            found = false;
-            for lowered in lowered(&pieces[place]) {
-                let before = std::mem::replace(&mut pieces[place], lowered);
-                found = differs(&pieces.concat());
-                if found {
-                    break;
-                }
-                pieces[place] = before;
-            }
-        }
+        while search.left > 0 && lower_one(&mut pieces, place, search) {}
     }
     pieces
+}
+
+/// Lowers a number of one piece, if the file then still differs.
+fn lower_one<F: FnMut(&[u8]) -> bool>(
+    pieces: &mut Pieces,
+    place: usize,
+    search: &mut Search<F>,
+) -> bool {
+    for lowered in lowered(&pieces[place]) {
+        let before = std::mem::replace(&mut pieces[place], lowered);
+        if search.finds(pieces) {
+            return true;
+        }
+        pieces[place] = before;
+    }
+    false
 }
 
 /// A piece with one of its numbers 0, halved or less by one; a byte alone is a number too.

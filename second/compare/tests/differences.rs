@@ -46,7 +46,7 @@ fn the_same_on_both_sides_is_no_difference() {
 fn a_run_ends_at_a_difference() {
     let mut wrong = right();
     wrong.programs[1].proved = |_, _| 0;
-    let (_, differences) = run(&wrong, 3, u64::MAX);
+    let (_, differences) = run(&wrong, 3, 1_000_000_000);
     assert!(differences.iter().all(|found| matches!(found, Difference::File(..))));
     assert!(!differences.is_empty());
 }
