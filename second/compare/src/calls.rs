@@ -1,4 +1,4 @@
-//! The calls themselves, on lent words that no file can carry: each side gets the same and must leave the same.
+//! The calls themselves, on what no file can carry: both sides are lent the same and leave the same.
 
 pub mod model;
 pub mod scripts;
@@ -6,6 +6,9 @@ pub mod scripts;
 use crate::tally::Tally;
 use saltlicker::raw;
 use std::fmt::Debug;
+
+/// Where a tally has what calls answered.
+pub const PLACE: &str = "calls";
 
 /// One side's calls.
 #[derive(Clone, Copy)]
@@ -91,14 +94,14 @@ impl Call {
     /// Counts what the call answered.
     fn count(&self, answer: u64, lent: &Lent, tally: &mut Tally) {
         if matches!(self, Call::DeskText { .. } | Call::OrderText { .. }) {
-            return tally.add("calls", "text", 0, 1);
+            return tally.add(PLACE, "text", 0, 1);
         }
         let (word, number) = model::word_and_number(answer);
-        tally.add("calls", word, number, 1);
+        tally.add(PLACE, word, number, 1);
         if word == "judged" {
             for &answer in &lent.answers {
                 let (word, number) = model::word_and_number(answer);
-                tally.add("calls", word, number, 1);
+                tally.add(PLACE, word, number, 1);
             }
         }
     }

@@ -30,10 +30,12 @@ fn main() -> ExitCode {
 
 /// What was met, and that nothing differed.
 fn report(tally: &Tally, seed: u64, count: u64) {
-    for place in [DESK.files, ORDER.files, "calls"] {
+    let places = [DESK.files, ORDER.files, calls::PLACE];
+    for place in places {
         println!("{}", tally.line(place));
     }
-    println!("never met: {}", tally.never_met());
+    println!("never met in files: {}", tally.never_met(&places[..2]));
+    println!("never met at all: {}", tally.never_met(&places));
     println!(
         "{count} request files, {count} traces and {count} scripts of calls from seed {seed}: \
          no difference ({} requests, {} events, {} bytes)",

@@ -48,9 +48,9 @@ impl Tally {
         format!("{place}: {}", parts.join(", "))
     }
 
-    /// The answers and refusals that were met nowhere.
-    pub fn never_met(&self) -> String {
-        let met = |word: &str, number: u32| self.0.keys().any(|k| (k.1, k.2) == (word, number));
+    /// The answers and refusals that were met at none of some places.
+    pub fn never_met(&self, places: &[&'static str]) -> String {
+        let met = |word, number| places.iter().any(|at| self.0.contains_key(&(at, word, number)));
         let plain = WORDS[..6].iter().chain(&WORDS[8..]).map(|&word| (word, 0));
         let waits = [1, 2].map(|number| ("wait", number));
         let refusals = REFUSALS.map(|number| ("refused", number));

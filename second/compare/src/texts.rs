@@ -2,8 +2,9 @@
 
 use second::event::read_event;
 use second::gen;
+use second::order::{LONGEST_TRACE, MOST_CHANGES};
+use second::programs::LONGEST_FILE;
 use second::request::read_request;
-use second::Refusal;
 
 /// One of the two programs: how its files are made and how each side prints one.
 #[derive(Clone, Copy)]
@@ -19,7 +20,7 @@ pub struct Program {
 pub const DESK: Program = Program {
     files: "request files",
     parts: "requests",
-    count: |file| count(file, read_request),
+    count: |file| count(file, LONGEST_FILE, |rest| Some(read_request(rest).ok()??.1)),
     make: gen::desk_file,
     second: second::desk_text,
     proved: saltlicker::raw::desk_text,
@@ -28,20 +29,28 @@ pub const DESK: Program = Program {
 pub const ORDER: Program = Program {
     files: "traces",
     parts: "events",
-    count: |file| count(file, read_event),
+    count: |file| count(file, LONGEST_TRACE, ordered_event),
     make: gen::order_file,
     second: second::order_text,
     proved: saltlicker::raw::order_text,
 };
 
-/// How many requests or events stand in a file before its end or its first fault.
-fn count<T>(file: &[u8], read: impl Fn(&[u8]) -> Result<Option<(T, usize)>, Refusal>) -> u64 {
-    let (mut rest, mut found) = (file, 0);
-    while let Ok(Some((_, length))) = read(rest) {
+/// How many requests or events of a file are read, by what gives the length of the next one.
+fn count(file: &[u8], longest: usize, next: impl Fn(&[u8]) -> Option<usize>) -> u64 {
+    // A file over its limit is refused unread.
+    let mut rest = if file.len() > longest { &[] } else { file };
+    let mut found = 0;
+    while let Some(length) = next(rest) {
         rest = &rest[length..];
         found += 1;
     }
     found
+}
+
+/// The length of the next event, if it is one that the order takes.
+fn ordered_event(rest: &[u8]) -> Option<usize> {
+    let (event, length) = read_event(rest).ok()??;
+    (event.ticket() <= MOST_CHANGES).then_some(length)
 }
 
 /// The longest text there is, and something beyond it.
