@@ -117,19 +117,23 @@ fn refusal_of_bits(tables: &Tables, seat: u32, record: u32, must_hold: bool) -> 
 
 /// One request: the answer, and the tables and desk record after it.
 pub fn step(tables: &Tables, desk: &DeskRecord, request: Request) -> (Answer, Tables, DeskRecord) {
-    if let Some(number) = refusal(tables, desk, request) {
-        return (Answer::Refused(number), tables.clone(), *desk);
-    }
-    let mut tables = tables.clone();
-    let mut desk = *desk;
-    let answer = match request {
-        Request::Begin { seat } => begin(&mut desk, seat),
-        Request::Lock { seat, record } => lock(&mut tables, &mut desk, seat, record),
-        Request::Touch { .. } => Answer::Touched,
-        Request::Release { seat, record } => release(&mut tables, seat, record),
-        Request::Finish { seat } => finish(&mut tables, &mut desk, seat),
-    };
+    let (mut tables, mut desk) = (tables.clone(), *desk);
+    let answer = judge(&mut tables, &mut desk, request);
     (answer, tables, desk)
+}
+
+/// One request, done in place.
+pub fn judge(tables: &mut Tables, desk: &mut DeskRecord, request: Request) -> Answer {
+    if let Some(number) = refusal(tables, desk, request) {
+        return Answer::Refused(number);
+    }
+    match request {
+        Request::Begin { seat } => begin(desk, seat),
+        Request::Lock { seat, record } => lock(tables, desk, seat, record),
+        Request::Touch { .. } => Answer::Touched,
+        Request::Release { seat, record } => release(tables, seat, record),
+        Request::Finish { seat } => finish(tables, desk, seat),
+    }
 }
 
 fn begin(desk: &mut DeskRecord, seat: u32) -> Answer {

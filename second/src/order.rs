@@ -44,16 +44,21 @@ pub fn touches(trace: &[u8]) -> Result<Vec<(u32, u32)>, OrderRefusal> {
 
 /// Every pair with a touch by the first earlier than a touch by the second of the same record.
 pub fn befores(touches: &[(u32, u32)]) -> Befores {
+    // Some touch by i is earlier than some by j if the first by i is earlier than the last by j.
+    let mut spans: BTreeMap<u32, BTreeMap<u32, (usize, usize)>> = BTreeMap::new();
+    for (place, &(ticket, record)) in touches.iter().enumerate() {
+        let of_record = spans.entry(record).or_default();
+        of_record.entry(ticket).or_insert((place, place)).1 = place;
+    }
     let mut pairs = Befores::new();
-    let mut earlier: BTreeMap<u32, BTreeSet<u32>> = BTreeMap::new();
-    for &(ticket, record) in touches {
-        let touchers = earlier.entry(record).or_default();
-        for &other in touchers.iter() {
-            if other != ticket {
-                pairs.insert((other, ticket));
+    for of_record in spans.values() {
+        for (&i, &(first, _)) in of_record {
+            for (&j, &(_, last)) in of_record {
+                if i != j && first < last {
+                    pairs.insert((i, j));
+                }
             }
         }
-        touchers.insert(ticket);
     }
     pairs
 }

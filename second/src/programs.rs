@@ -1,6 +1,6 @@
 //! The two programs: what the desk program and the order program print.
 
-use crate::desk::{clear, event_of, step, Answer, DeskRecord, Tables};
+use crate::desk::{clear, event_of, judge, Answer, DeskRecord, Tables};
 use crate::event::spell_event;
 use crate::order::{order, OrderRefusal, MOST_CHANGES, TABLE_WORDS};
 use crate::request::{read_request, Request};
@@ -27,12 +27,11 @@ impl Work {
 
     /// One request, and the event it calls for.
     pub fn ask(&mut self, request: Request) -> Answer {
-        let (answer, tables, desk) = step(&self.tables, &self.desk, request);
-        if let Some(event) = event_of(request, answer, &self.desk) {
+        let before = self.desk;
+        let answer = judge(&mut self.tables, &mut self.desk, request);
+        if let Some(event) = event_of(request, answer, &before) {
             self.trace.extend(spell_event(event).expect("a desk's own event has a spelling"));
         }
-        self.tables = tables;
-        self.desk = desk;
         answer
     }
 }

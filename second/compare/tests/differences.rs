@@ -1,0 +1,175 @@
+//! A wrong side is found, and a file it prints wrongly is made small.
+
+use compare::calls::model::SECOND;
+use compare::calls::{hold, scripts::script, Calls, PLACE};
+use compare::run::{run, Difference, Proved};
+use compare::shrink::shrink;
+use compare::tally::Tally;
+use compare::texts::{Program, DESK, ORDER, ROOM};
+
+/// The second program on both sides.
+fn right() -> Proved {
+    let desk = Program { proved: SECOND.desk_text, ..DESK };
+    let order = Program { proved: SECOND.order_text, ..ORDER };
+    Proved { programs: [desk, order], calls: SECOND }
+}
+
+/// The smallest file found on which a side of its own differs from the second program.
+fn smallest(program: Program) -> Vec<u8> {
+    let mut room = vec![0; ROOM];
+    let mut differs = |file: &[u8]| program.agreed(file, &mut room).is_none();
+    let files = (0..500).map(|index| (program.make)(3, index));
+    let file = files.into_iter().find(|file| differs(file)).expect("a wrong side is found");
+    shrink(file, differs)
+}
+
+/// Whether some script finds the calls different from the second program's.
+fn found(calls: Calls) -> bool {
+    (0..500).any(|index| hold(script(3, index), &calls, &mut Tally::default()).is_err())
+}
+
+/// Puts the second program's text with some words in place of others.
+fn put(text: String, from: &str, to: &str, room: &mut [u8]) -> usize {
+    let text = text.replace(from, to);
+    room[..text.len()].copy_from_slice(text.as_bytes());
+    text.len()
+}
+
+#[test]
+fn the_same_on_both_sides_is_no_difference() {
+    let (tally, differences) = run(&right(), 3, 300);
+    assert!(differences.is_empty());
+    // No file can carry tables, a record, a room, a table of befores or 65,535 changes.
+    let files = [DESK.files, ORDER.files];
+    assert_eq!(tally.never_met(&files), "refused 1, refused 6, refused 24, refused 25");
+    assert_eq!(tally.never_met(&[DESK.files, ORDER.files, PLACE]), "none");
+}
+
+#[test]
+fn a_run_ends_at_a_difference() {
+    let mut wrong = right();
+    wrong.programs[1].proved = |_, _| 0;
+    let (_, differences) = run(&wrong, 3, 1_000_000_000);
+    assert!(differences.iter().all(|found| matches!(found, Difference::File(..))));
+    assert!(!differences.is_empty());
+}
+
+#[test]
+fn a_desk_that_grants_where_wakes_differ() {
+    let proved =
+        |file: &[u8], room: &mut [u8]| put(second::desk_text(file), "wait 2", "granted", room);
+    let file = smallest(Program { proved, ..DESK });
+    // Two begin, each locks a record, one releases its own, the other asks for that.
+    assert_eq!(file.len(), 16);
+    assert!(second::desk_text(&file).contains("wait 2"));
+}
+
+#[test]
+fn a_desk_that_takes_any_seat() {
+    let proved = |file: &[u8], room: &mut [u8]| {
+        put(second::desk_text(file), "refused 2\n", "started 1\n", room)
+    };
+    assert_eq!(smallest(Program { proved, ..DESK }), [1, 32]);
+}
+
+#[test]
+fn an_order_that_sees_no_ring() {
+    let proved = |trace: &[u8], room: &mut [u8]| {
+        put(second::order_text(trace), "refused 28 at 0", "order 0", room)
+    };
+    assert_eq!(smallest(Program { proved, ..ORDER }), [3, 1, 0, 3, 2, 0, 3, 1, 0]);
+}
+
+#[test]
+fn a_text_that_goes_on_after_its_end() {
+    let proved = |trace: &[u8], room: &mut [u8]| {
+        let length = put(second::order_text(trace), "", "", room);
+        room[length] = 0;
+        length
+    };
+    assert!(smallest(Program { proved, ..ORDER }).is_empty());
+}
+
+#[test]
+fn a_clearing_that_leaves_the_record_when_refused() {
+    let clear = |held: &mut [u32], released: &mut [u32], desk: &mut [u32]| {
+        let before = desk.to_vec();
+        let answer = (SECOND.clear)(held, released, desk);
+        if answer >> 32 == 1 {
+            desk.copy_from_slice(&before);
+        }
+        answer
+    };
+    assert!(found(Calls { clear, ..SECOND }));
+}
+
+#[test]
+fn a_desk_that_leaves_finished_seats_in_the_wakes() {
+    let judge = |held: &mut [u32],
+                 released: &mut [u32],
+                 desk: &mut [u32],
+                 requests: &[u32],
+                 answers: &mut [u64]| {
+        let before = desk.to_vec();
+        let answer = (SECOND.judge)(held, released, desk, requests, answers);
+        // One request alone, so that no other has altered the wakes.
+        if answers.len() == 1 && answers[0] >> 32 == 105 {
+            for seat in (0..32).filter(|&seat| seat != requests[1] as usize) {
+                desk[2 * seat + 1] = before[2 * seat + 1];
+            }
+        }
+        answer
+    };
+    assert!(found(Calls { judge, ..SECOND }));
+}
+
+#[test]
+fn a_reader_that_leaves_something_when_refused() {
+    let read = |rest: &[u8], event: &mut [u32]| {
+        let answer = (SECOND.read)(rest, event);
+        if answer >> 32 == 23 {
+            event[0] = u32::from(rest[0]);
+        }
+        answer
+    };
+    assert!(found(Calls { read, ..SECOND }));
+}
+
+#[test]
+fn a_writer_that_writes_a_byte_more() {
+    let write = |room: &mut [u8], kind: u32, ticket: u32, record: u32| {
+        let answer = (SECOND.write)(room, kind, ticket, record);
+        if let (207, Some(byte)) = (answer >> 32, room.get_mut(answer as u32 as usize)) {
+            *byte = 0;
+        }
+        answer
+    };
+    assert!(found(Calls { write, ..SECOND }));
+}
+
+#[test]
+fn an_order_that_leaves_the_list_at_a_ring() {
+    let order = |trace: &[u8], table: &mut [u32], list: &mut [u16]| {
+        let before = list.to_vec();
+        let answer = (SECOND.order)(trace, table, list);
+        if answer >> 32 == 28 {
+            list.copy_from_slice(&before);
+        }
+        answer
+    };
+    assert!(found(Calls { order, ..SECOND }));
+}
+
+#[test]
+fn texts_that_give_more_than_they_put() {
+    let desk_text = |file: &[u8], room: &mut [u8]| {
+        (SECOND.desk_text)(file, room);
+        second::desk_text(file).len()
+    };
+    let order_text = |trace: &[u8], room: &mut [u8]| {
+        (SECOND.order_text)(trace, room);
+        second::order_text(trace).len()
+    };
+    assert!(found(Calls { desk_text, ..SECOND }));
+    assert!(found(Calls { order_text, ..SECOND }));
+}
