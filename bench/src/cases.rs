@@ -1,0 +1,94 @@
+//! Each request kind alone: where it starts from, its requests, and the answer all of them get.
+
+use crate::in_place::judge_all;
+use crate::mixed;
+use crate::state::State;
+
+/// How many records the tables have, unless a case says otherwise.
+pub const RECORDS: u32 = 4_096;
+
+const BEGIN: u32 = 1;
+const LOCK: u32 = 2;
+const TOUCH: u32 = 3;
+const RELEASE: u32 = 4;
+const FINISH: u32 = 5;
+
+/// A script, and what the desk is when it starts.
+pub struct Case {
+    pub key: &'static str,
+    pub what: &'static str,
+    pub start: State,
+    pub requests: Vec<u32>,
+    /// The codes that its answers have.
+    pub codes: &'static [u32],
+}
+
+impl Case {
+    /// How many requests it has.
+    pub fn count(&self) -> usize {
+        self.requests.len() / 3
+    }
+}
+
+/// Every case, the mixed script last.
+pub fn all() -> Vec<Case> {
+    let cleared = || State::cleared(RECORDS as usize);
+    let mixed = mixed::script(10_000);
+    vec![
+        case("pair", "BEGIN, FINISH; 1 record", State::cleared(1), pairs(4_096), &[101, 105]),
+        case("finish", "BEGIN, FINISH; 4,096 records", cleared(), pairs(256), &[101, 105]),
+        case("grant", "LOCK granted", began(), each(LOCK, 0), &[102]),
+        case("held", "LOCK held", owned(), each(LOCK, 0), &[201]),
+        case("wait1", "LOCK wait 1", owned(), each(LOCK, 1), &[202]),
+        case("wait2", "LOCK wait 2", given_up(), each(LOCK, 1), &[202]),
+        case("touch", "TOUCH", owned(), each(TOUCH, 0), &[103]),
+        case("release", "RELEASE", owned(), each(RELEASE, 0), &[104]),
+        case("refused", "refused 7", owned(), each(TOUCH, 1), &[7]),
+        case("mixed", "mixed script", cleared(), mixed, &[7, 8, 101, 102, 103, 104, 105, 201, 202]),
+    ]
+}
+
+fn case(
+    key: &'static str,
+    what: &'static str,
+    start: State,
+    requests: Vec<u32>,
+    codes: &'static [u32],
+) -> Case {
+    Case { key, what, start, requests, codes }
+}
+
+/// The case of a name.
+pub fn named(key: &str) -> Option<Case> {
+    all().into_iter().find(|case| case.key == key)
+}
+
+/// A request of one kind by a seat for each record but the last.
+fn each(kind: u32, seat: u32) -> Vec<u32> {
+    (0..RECORDS - 1).flat_map(|record| [kind, seat, record]).collect()
+}
+
+fn pairs(count: usize) -> Vec<u32> {
+    [BEGIN, 3, 0, FINISH, 3, 0].repeat(count)
+}
+
+fn after(mut state: State, requests: &[u32]) -> State {
+    let mut answers = vec![0; requests.len() / 3];
+    state.judge(judge_all, requests, &mut answers);
+    state
+}
+
+/// Seats 0 and 1 have begun.
+fn began() -> State {
+    after(State::cleared(RECORDS as usize), &[BEGIN, 0, 0, BEGIN, 1, 0])
+}
+
+/// Seat 0 holds every record but the last, which seat 1 holds.
+fn owned() -> State {
+    after(after(began(), &each(LOCK, 0)), &[LOCK, 1, RECORDS - 1])
+}
+
+/// And has released them, so that seat 1, with a lock outside that wake, may not have them.
+fn given_up() -> State {
+    after(owned(), &each(RELEASE, 0))
+}
