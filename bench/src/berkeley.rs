@@ -13,7 +13,7 @@ extern "C" {
     fn berkeley_changes(env: *mut c_void, changes: c_uint, k: c_uint) -> c_long;
 }
 
-/// Rows for few and many locks a change, granted and not, by ours one request a call and as a batch.
+/// Rows for few and many locks a change, granted and not, one request a call and as a batch.
 pub fn rows() {
     for threaded in [false, true] {
         let free = Manager::open(threaded);

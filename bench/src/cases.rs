@@ -1,6 +1,7 @@
 //! Each request kind alone: where it starts from, its requests, and the answer all of them get.
 
-use crate::in_place::judge_all;
+use crate::desk::{Desk, Request};
+use crate::in_place::judge;
 use crate::mixed;
 use crate::state::State;
 
@@ -72,9 +73,13 @@ fn pairs(count: usize) -> Vec<u32> {
     [BEGIN, 3, 0, FINISH, 3, 0].repeat(count)
 }
 
+/// Not by a side's own batch call, so that a count of its instructions has none of the set-up.
 fn after(mut state: State, requests: &[u32]) -> State {
-    let mut answers = vec![0; requests.len() / 3];
-    state.judge(judge_all, requests, &mut answers);
+    let mut desk = Desk::of_words(&state.desk);
+    for request in requests.chunks_exact(3).filter_map(Request::of_words) {
+        judge(&mut state.held, &mut state.released, &mut desk, request);
+    }
+    desk.write_words(&mut state.desk);
     state
 }
 

@@ -1,4 +1,4 @@
-//! Reading and writing a trace event by event: the exported calls beside the same by hand, called and inlined.
+//! Reading and writing a trace event by event: the exported calls beside the same by hand.
 
 use bench::measure::{row, time, Unit};
 use bench::trace;

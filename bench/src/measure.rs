@@ -12,7 +12,8 @@ pub fn time<T>(work: impl FnOnce() -> T) -> Duration {
     start.elapsed()
 }
 
-/// One run: rounds until it is long enough, in nanoseconds a unit. A round gives its own time, without what it sets up.
+/// One run: rounds until it is long enough, in nanoseconds a unit.
+/// A round gives its own time, so that what it sets up is left out.
 fn run(units: usize, round: &mut impl FnMut() -> Duration) -> f64 {
     let (mut total, mut rounds) = (Duration::ZERO, 0);
     while total < RUN {

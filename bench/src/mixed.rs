@@ -1,4 +1,4 @@
-//! The mixed script: sweeps that lock, touch and release as they go, with editors in their wake and beside them.
+//! The mixed script: sweeps that lock, touch and release as they go, editors behind and beside.
 
 use crate::cases::RECORDS;
 use crate::desk::{Answer, Desk, Request};

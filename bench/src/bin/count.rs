@@ -1,4 +1,4 @@
-//! One fixed input through one side, so many times, to be counted from outside; prints how many units once is.
+//! One fixed input through one side, so many times, to be counted from outside.
 
 use bench::order::{self, TABLE, TICKETS};
 use bench::state::Judge;
