@@ -44,8 +44,7 @@ pub fn order(trace: &[u8], table: &mut [u32], list: &mut [u16]) -> u64 {
     if trace.len() > LONGEST {
         return 26 << 32;
     }
-    let mut rows =
-        Rows { touchers: [[0; 8]; RECORDS as usize], befores: [[0; 8]; TICKETS], touching: [0; 8] };
+    let mut rows = Rows::EMPTY;
     match rows.walk(trace) {
         Ok(()) => rows.settle(table, list),
         Err(Refusal::Unread(fault, at)) => (fault as u64) << 32 | at as u64,
@@ -54,6 +53,10 @@ pub fn order(trace: &[u8], table: &mut [u32], list: &mut [u16]) -> u64 {
 }
 
 impl Rows {
+    // A constant is zeroed where it stands; built on the spot, its rows are copied there once more.
+    const EMPTY: Rows =
+        Rows { touchers: [[0; 8]; RECORDS as usize], befores: [[0; 8]; TICKETS], touching: [0; 8] };
+
     fn walk(&mut self, trace: &[u8]) -> Result<(), Refusal> {
         let mut at = 0;
         loop {
