@@ -5,6 +5,7 @@ use bench::measure::{row, time, Unit};
 use bench::state::State;
 use saltlicker::raw;
 use std::ffi::{c_char, c_int, c_long, c_uint, c_void, CString};
+use std::path::Path;
 use std::time::Duration;
 
 extern "C" {
@@ -15,15 +16,18 @@ extern "C" {
 
 /// Rows for few and many locks a change, granted and not, one request a call and as a batch.
 pub fn rows() {
+    let folder = std::env::temp_dir().join(format!("bench-{}", std::process::id()));
+    std::fs::create_dir(&folder).expect("a folder can be made");
     for threaded in [false, true] {
-        let free = Manager::open(threaded);
-        let taken = Manager::open(threaded);
+        let free = Manager::open(&folder, threaded);
+        let taken = Manager::open(&folder, threaded);
         taken.hold_all();
         for k in [1, 16, 256] {
             rows_of(&free, "granted", k, &State::cleared(RECORDS as usize));
-            rows_of(&taken, "not granted", k, &cases::named("wait1").expect("one of them").start);
+            rows_of(&taken, "not granted", k, &cases::named("wait1").start);
         }
     }
+    std::fs::remove_dir_all(&folder).expect("the folder can be removed");
 }
 
 fn rows_of(manager: &Manager, answered: &str, k: u32, start: &State) {
@@ -76,8 +80,8 @@ struct Manager {
 }
 
 impl Manager {
-    fn open(threaded: bool) -> Manager {
-        let folder = std::env::temp_dir().to_string_lossy().into_owned();
+    fn open(folder: &Path, threaded: bool) -> Manager {
+        let folder = folder.as_os_str().as_encoded_bytes();
         let folder = CString::new(folder).expect("a path has no zero byte");
         // SAFETY: the string lives through the call.
         let env = unsafe { berkeley_open(folder.as_ptr(), c_int::from(threaded)) };

@@ -16,7 +16,6 @@ const FINISH: u32 = 5;
 
 /// A script, and what the desk is when it starts.
 pub struct Case {
-    pub key: &'static str,
     pub what: &'static str,
     pub start: State,
     pub requests: Vec<u32>,
@@ -31,38 +30,30 @@ impl Case {
     }
 }
 
-/// Every case, the mixed script last.
-pub fn all() -> Vec<Case> {
-    let cleared = || State::cleared(RECORDS as usize);
-    let mixed = mixed::script(10_000);
-    vec![
-        case("pair", "BEGIN, FINISH; 1 record", State::cleared(1), pairs(4_096), &[101, 105]),
-        case("finish", "BEGIN, FINISH; 4,096 records", cleared(), pairs(256), &[101, 105]),
-        case("grant", "LOCK granted", began(), each(LOCK, 0), &[102]),
-        case("held", "LOCK held", owned(), each(LOCK, 0), &[201]),
-        case("wait1", "LOCK wait 1", owned(), each(LOCK, 1), &[202]),
-        case("wait2", "LOCK wait 2", given_up(), each(LOCK, 1), &[202]),
-        case("touch", "TOUCH", owned(), each(TOUCH, 0), &[103]),
-        case("release", "RELEASE", owned(), each(RELEASE, 0), &[104]),
-        case("refused", "refused 7", owned(), each(TOUCH, 1), &[7]),
-        case("mixed", "mixed script", cleared(), mixed, &[7, 8, 101, 102, 103, 104, 105, 201, 202]),
-    ]
-}
-
-fn case(
-    key: &'static str,
-    what: &'static str,
-    start: State,
-    requests: Vec<u32>,
-    codes: &'static [u32],
-) -> Case {
-    Case { key, what, start, requests, codes }
-}
+/// The names of all cases, the mixed script last.
+pub const KEYS: [&str; 10] =
+    ["pair", "finish", "grant", "held", "wait1", "wait2", "touch", "release", "refused", "mixed"];
 
 /// The case of a name.
-pub fn named(key: &str) -> Option<Case> {
-    all().into_iter().find(|case| case.key == key)
+pub fn named(key: &str) -> Case {
+    let cleared = || State::cleared(RECORDS as usize);
+    let case = |what, start, requests, codes| Case { what, start, requests, codes };
+    match key {
+        "pair" => case("BEGIN, FINISH; 1 record", State::cleared(1), pairs(4_096), &[101, 105]),
+        "finish" => case("BEGIN, FINISH; 4,096 records", cleared(), pairs(256), &[101, 105]),
+        "grant" => case("LOCK granted", began(), each(LOCK, 0), &[102]),
+        "held" => case("LOCK held", owned(), each(LOCK, 0), &[201]),
+        "wait1" => case("LOCK wait 1", owned(), each(LOCK, 1), &[202]),
+        "wait2" => case("LOCK wait 2", given_up(), each(LOCK, 1), &[202]),
+        "touch" => case("TOUCH", owned(), each(TOUCH, 0), &[103]),
+        "release" => case("RELEASE", owned(), each(RELEASE, 0), &[104]),
+        "refused" => case("refused 7", owned(), each(TOUCH, 1), &[7]),
+        "mixed" => case("mixed script", cleared(), mixed::script(10_000), MIXED),
+        _ => panic!("no case {key}"),
+    }
 }
+
+const MIXED: &[u32] = &[7, 8, 101, 102, 103, 104, 105, 201, 202];
 
 /// A request of one kind by a seat for each record but the last.
 fn each(kind: u32, seat: u32) -> Vec<u32> {

@@ -11,3 +11,4 @@ pub mod state;
 pub mod tables;
 pub mod trace;
 pub mod traces;
+pub mod walks;

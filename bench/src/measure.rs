@@ -2,7 +2,7 @@
 
 use std::time::{Duration, Instant};
 
-const RUNS: usize = 15;
+const RUNS: usize = 25;
 const RUN: Duration = Duration::from_millis(6);
 
 /// How long one piece of work takes.

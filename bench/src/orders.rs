@@ -2,13 +2,13 @@
 
 use bench::measure::{row, time, Unit};
 use bench::order::{self, TABLE, TICKETS};
-use bench::traces::{all, first_events};
+use bench::traces::{first_events, named, KEYS};
 use saltlicker::raw;
 use std::time::Duration;
 
 /// A row for each kind of trace and each length.
 pub fn rows() {
-    for trace in all() {
+    for trace in KEYS.map(named) {
         for most in [4_096, 16_384, 65_536] {
             let bytes = first_events(&trace.bytes, most);
             check(bytes);

@@ -1,6 +1,6 @@
 //! Each request kind and the mixed script: the proved desk beside the hand-written ones.
 
-use bench::cases::{all, named, Case};
+use bench::cases::{named, Case, KEYS};
 use bench::measure::{row, time, Unit};
 use bench::state::{Judge, State};
 use bench::{by_value, in_place};
@@ -10,12 +10,11 @@ use std::time::Duration;
 
 /// A row for each case and each way by hand; the mixed script also one request a call.
 pub fn rows() {
-    for case in all() {
+    for case in KEYS.map(named) {
         check(&case);
         rows_of(case.what, &case, case.count());
     }
-    let mixed = named("mixed").expect("it is one of them");
-    rows_of("mixed script, one request a call", &mixed, 1);
+    rows_of("mixed script, one request a call", &named("mixed"), 1);
 }
 
 fn rows_of(what: &str, case: &Case, a_call: usize) {
@@ -62,9 +61,8 @@ fn check(case: &Case) {
 
 /// How often each answer is given in the mixed script.
 pub fn mix() -> String {
-    let mixed = named("mixed").expect("it is one of them");
     let mut counts = BTreeMap::new();
-    for answer in outcome(&mixed, raw::judge).0 {
+    for answer in outcome(&named("mixed"), raw::judge).0 {
         // Only a wait has a value that tells answers of one code apart.
         let value = if answer >> 32 == 202 { answer as u32 } else { 0 };
         *counts.entry((answer >> 32, value)).or_insert(0) += 1;

@@ -1,69 +1,66 @@
 //! The traces that are ordered, read and written.
 
 use second::event::read_event;
-use second::gen::{length, order_file, pad, piece, Pieces};
+use second::gen::{order_file, pad, piece};
+
+const FULL: usize = 65_536;
+
+/// The names of all kinds of trace.
+pub const KEYS: [&str; 6] = ["few", "down", "many", "down_many", "desk", "generated"];
 
 /// A trace and what it is.
 pub struct Trace {
-    pub key: &'static str,
     pub what: &'static str,
     pub bytes: Vec<u8>,
 }
 
-/// The kinds of trace of 65,536 bytes, the generator's last.
-pub fn all() -> Vec<Trace> {
-    let mut traces = fixed();
-    let what = "the generator's";
-    traces.push(Trace { key: "generated", what, bytes: generated() });
-    traces
-}
-
-/// Those that need no search.
-pub fn fixed() -> Vec<Trace> {
-    let trace = |key, what, bytes| Trace { key, what, bytes };
+/// The trace of a name, of 65,536 bytes.
+pub fn named(key: &str) -> Trace {
+    let trace = |what, bytes| Trace { what, bytes };
     let up = |place: u32| place + 1;
     let down = |place: u32| 256 - place;
-    vec![
-        trace("few", "256 tickets, 8 records", touches(8, up)),
-        trace("down", "256 tickets downwards, 8 records", touches(8, down)),
-        trace("many", "256 tickets, 4,096 records", touches(4_096, up)),
-        trace("down_many", "256 tickets downwards, 4,096 records", touches(4_096, down)),
-        trace("desk", "a desk's events, 4,096 records", changes()),
-    ]
+    match key {
+        "few" => trace("256 tickets, 8 records", touches(8, up)),
+        "down" => trace("256 tickets downwards, 8 records", touches(8, down)),
+        "many" => trace("256 tickets, 4,096 records", touches(4_096, up)),
+        "down_many" => trace("256 tickets downwards, 4,096 records", touches(4_096, down)),
+        "desk" => trace("a desk's events, 4,096 records", changes()),
+        "generated" => trace("the generator's", generated()),
+        _ => panic!("no trace {key}"),
+    }
 }
 
 /// Touches along a row of 256 tickets, ticket after ticket, as many by each, the records in turn.
 fn touches(records: u32, ticket: impl Fn(u32) -> u32) -> Vec<u8> {
-    let (mut pieces, mut used) = (Pieces::new(), 0);
-    let (share, mut record) = (FULL / 256, 0);
+    let (mut trace, mut record) = (Vec::new(), 0);
     for place in 0..256 {
-        while used < share * (place as usize + 1) - 7 {
-            let event = piece(3, &[ticket(place), record % records]);
-            used += event.len();
-            pieces.push(event);
+        while trace.len() < FULL / 256 * (place as usize + 1) - 7 {
+            trace.extend(piece(3, &[ticket(place), record % records]));
             record += 1;
         }
     }
+    full(trace)
+}
+
+/// Padded to its full length.
+fn full(trace: Vec<u8>) -> Vec<u8> {
+    let mut pieces = vec![trace];
     pad(&mut pieces, FULL);
     pieces.concat()
 }
 
-const FULL: usize = 65_536;
-
 /// Changes one after the other, each with all five kinds of event.
 fn changes() -> Vec<u8> {
-    let (mut pieces, mut record) = (Pieces::new(), 0);
+    let (mut trace, mut record) = (Vec::new(), 0);
     for ticket in 1..=256 {
-        pieces.push(piece(1, &[ticket]));
-        let end = FULL / 256 * ticket as usize - 20;
-        while length(&pieces) < end {
+        trace.extend(piece(1, &[ticket]));
+        while trace.len() < FULL / 256 * ticket as usize - 20 {
             record = (record + 37) % 4_096;
-            pieces.extend((2..=4).map(|kind| piece(kind, &[ticket, record])));
+            (2..=4).for_each(|kind| trace.extend(piece(kind, &[ticket, record])));
         }
-        pieces.push(piece(5, &[ticket]));
+        trace.extend(piece(5, &[ticket]));
     }
-    pad(&mut pieces, FULL);
-    pieces.concat()
+    full(trace)
 }
 
 /// The first full trace of the generator that has an order and touches many records.
