@@ -5,6 +5,7 @@ use crate::desk::{DESK_WORDS, JUDGED, MOST_BEGUN, SEATS, UNKNOWN_KIND, WRONG_LEN
 use crate::tables::{fit, leave, lock, release, touch};
 
 /// Judges one request.
+#[inline(never)]
 pub fn judge(held: &mut [u32], released: &mut [u32], desk: &mut Desk, request: Request) -> Answer {
     if !fit(held, released) {
         return Answer::Refused(Refusal::BadTables);

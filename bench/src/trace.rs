@@ -48,7 +48,8 @@ impl Event {
 }
 
 /// The event at the front of `rest` and its length, `None` at the end.
-#[inline]
+// Always, as whether it is inlined would else hang on how many users the bench happens to have.
+#[inline(always)]
 pub fn read_event(rest: &[u8]) -> Result<Option<(Event, usize)>, Fault> {
     let Some((&kind, rest)) = rest.split_first() else {
         return Ok(None);
@@ -126,7 +127,7 @@ pub fn read(rest: &[u8], event: &mut [u32]) -> u64 {
 }
 
 /// Puts an event at the front of `room` and gives its length.
-#[inline]
+#[inline(always)]
 pub fn write_event(room: &mut [u8], event: Event) -> Result<usize, Fault> {
     match event {
         Event::Started { ticket } => put_one(room, 1, ticket),
