@@ -1,5 +1,5 @@
-/* Saltlicker's calls for C and C++. Link target/staticlib/libsaltlicker.a (x86-64 Linux), which `rt staticlib saltlicker`
-   proves and builds; examples/viaduct.c uses most of it.
+/* Saltlicker's calls for C and C++. `bin/library` proves and builds them in target/staticlib: link libsaltlicker.a (x86-64
+   Linux), and for the two texts at the end libsaltlicker_text.a. examples/viaduct.c uses most of them.
 
    Every slice is a pointer and a length in elements, not in bytes. A pointer may not be null; where the length is 0 it is not
    read through. Two slices of one call may not overlap where either is written. Within these two rules no call reads or writes
@@ -20,7 +20,8 @@ extern "C" {
 #endif
 
 /* An answer: a code in the upper 32 bits, a value in the lower 32. A code below 100 is a refusal by that number (below), or
-   99. From 101 on it is the kind of the event that the answer puts in the trace, plus 100; from 201 on the rest. */
+   99. From 101 on it is the kind of the event that the answer puts in the trace, plus 100; from 201 on the rest. The value is 0
+   where nothing else is said of it. */
 typedef uint64_t saltlicker_answer;
 
 static inline uint32_t saltlicker_code(saltlicker_answer answer) { return (uint32_t)(answer >> 32); }
@@ -47,7 +48,7 @@ static inline uint32_t saltlicker_value(saltlicker_answer answer) { return (uint
    27 ticket over 256
    28 the befores close a ring */
 enum {
-    SALTLICKER_UNKNOWN_KIND = 22, /* a request or an event of no such kind */
+    SALTLICKER_UNKNOWN_KIND = 22, /* a request or an event of no such kind, whatever else is wrong with it */
     SALTLICKER_WRONG_LENGTH = 99, /* desk, requests, answers or event of another length than its call asks; nothing is changed */
 
     SALTLICKER_STARTED = 101,  /* value: the ticket */
@@ -107,7 +108,7 @@ saltlicker_answer saltlicker_judge(uint32_t *held, size_t held_words, uint32_t *
                                    saltlicker_answer *answers, size_t answer_count);
 
 /* Reads the event at the front of the rest of a trace into kind, ticket and record: FOUND with its length, by which the caller
-   moves on, END, or refused 20 to 23. */
+   moves on, or END or refused 20 to 23, which leave the event's words. */
 saltlicker_answer saltlicker_read(const uint8_t *rest, size_t rest_bytes, uint32_t *event, size_t event_words);
 
 /* Puts an event at the front of the unused rest of a buffer: WRITTEN with its length (at most 6), by which the caller moves on,

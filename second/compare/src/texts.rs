@@ -54,7 +54,7 @@ fn ordered_event(rest: &[u8]) -> Option<usize> {
 }
 
 /// The longest text there is, and something beyond it.
-pub const ROOM: usize = saltlicker::DESK_TEXT + 64;
+pub const ROOM: usize = saltlicker::names::DESK_TEXT + 64;
 
 /// A byte that no text has.
 const MARK: u8 = 0xEE;
