@@ -7,6 +7,7 @@ use lib.ListN.{length, getD}
 use Rattle.words.specs.Tests.{pick}
 use Rattle.trace.specs.Answers.{ReadingSaid, event, end, no-event}
 use Rattle.trace.specs.Events.{readAt, Wrote, writeAt}
+use Rattle.trace.specs.Causes.{ticketOf, recordOf}
 use Rattle.trace.specs.declared.Event.{Event}
 use Rattle.trace.specs.declared.Event.the-variants.{Started, Granted, Touched, Released, Finished}
 use Rattle.desk.specs.Limits.{seats}
@@ -106,13 +107,17 @@ turnedAs r h l = record { answer = r .answer; left = state h l (r .desk) }
 
 -- ---- saltlicker_read
 
--- kind, ticket and record of an event, 0 where it has no record
+-- the kind byte of an event
+abbrev pub kindOf : Event → ℕ
+kindOf (Started t) = 1
+kindOf (Granted t r) = 2
+kindOf (Touched t r) = 3
+kindOf (Released t r) = 4
+kindOf (Finished t) = 5
+
+-- its kind, its ticket and its record, 0 where it has none
 abbrev pub row : Event → List ℕ
-row (Started t) = 1 ∷ t ∷ 0 ∷ []
-row (Granted t r) = 2 ∷ t ∷ r ∷ []
-row (Touched t r) = 3 ∷ t ∷ r ∷ []
-row (Released t r) = 4 ∷ t ∷ r ∷ []
-row (Finished t) = 5 ∷ t ∷ 0 ∷ []
+row e = kindOf e ∷ ticketOf e ∷ recordOf e ∷ []
 
 -- the answer, and the event's words as they are left
 pub record ReadLeft : Type 0 where

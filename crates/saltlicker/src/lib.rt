@@ -1,11 +1,11 @@
 // The calls for other languages: numbers and slices in, one number out. Each has the promise of the call below it.
 ghost use mathlib.Core.Path.{_≡_};
-ghost use mathlib.Core.List.{[], _∷_};
 ghost use Prim.Native.Nat.{_<_, _*_};
 ghost use lib.ListN.{length, set};
 ghost use Rattle.words.specs.Tests.{pick};
 ghost use Rattle.words.specs.Word.{put};
 ghost use Rattle.trace.specs.Events.{writeAt};
+ghost use Rattle.trace.specs.Causes.{ticketOf, recordOf};
 ghost use Rattle.desk.specs.Answers.{said, clearSaid};
 ghost use Rattle.desk.specs.Limits.{seats};
 ghost use Rattle.desk.specs.Step.{state};
@@ -13,7 +13,7 @@ ghost use Rattle.saltlicker.specs.Limits.{deskWords, requestWords, event
 ghost use Rattle.saltlicker.specs.Answers.{coded, saidCode, clearCode};
 ghost use Rattle.saltlicker.specs.Lists.{each};
 ghost use Rattle.saltlicker.specs.DeskWords.{seatIn, deskOf, wordsOf};
-ghost use Rattle.saltlicker.specs.Calls.{leftCleared, clearCall, asking, judged, stateAt, answerAt, leftJudged, judgeCall, told, turnedAs, row, leftRead, readCall, leftWrite, wroteAs, writeCall, leftOrder, orderCall};
+ghost use Rattle.saltlicker.specs.Calls.{leftCleared, clearCall, asking, judged, stateAt, answerAt, leftJudged, judgeCall, told, turnedAs, kindOf, row, leftRead, readCall, leftWrite, wroteAs, writeCall, leftOrder, orderCall};
 use desk::Answer;
 use desk::Clearing;
 use desk::Desk;
@@ -270,28 +270,53 @@ pub extern "C" fn saltlicker_judge(
 
 // ---- the trace
 
-// Puts kind, ticket and record of an event.
-fn put_row(event: &mut [u32], kind: u32, ticket: u32, record: u32)
-    requires { ⌜ length (now event) ≡ eventWords ⌝ }
-    ensures { λ _. ⌜ now (event .exit) ≡ kind ∷ ticket ∷ «record» ∷ [] ⌝ }
+// The kind byte of an event.
+fn kind_of(event: Event) -> u32
+    ensures { λ r. ⌜ r ≡ kindOf event ⌝ }
 {
-    put_word(event, 0, kind);
-    put_word(event, 1, ticket);
-    put_word(event, 2, record);
+    match event {
+        Event::Started { ticket: _ } => 1,
+        Event::Granted { .. } => 2,
+        Event::Touched { .. } => 3,
+        Event::Released { .. } => 4,
+        Event::Finished { ticket: _ } => 5,
+    }
 }
 
-// Puts the words of an event.
+// The ticket of an event.
+fn ticket_of(event: Event) -> u32
+    ensures { λ r. ⌜ r ≡ ticketOf event ⌝ }
+{
+    match event {
+        Event::Started { ticket } => ticket,
+        Event::Granted { ticket, .. } => ticket,
+        Event::Touched { ticket, .. } => ticket,
+        Event::Released { ticket, .. } => ticket,
+        Event::Finished { ticket } => ticket,
+    }
+}
+
+// The record of an event, or 0 where it has none.
+fn record_of(event: Event) -> u32
+    ensures { λ r. ⌜ r ≡ recordOf event ⌝ }
+{
+    match event {
+        Event::Started { ticket: _ } => 0,
+        Event::Granted { record, .. } => record,
+        Event::Touched { record, .. } => record,
+        Event::Released { record, .. } => record,
+        Event::Finished { ticket: _ } => 0,
+    }
+}
+
+// Puts kind, ticket and record of an event.
 fn put_event(event: &mut [u32], found: Event)
     requires { ⌜ length (now event) ≡ eventWords ⌝ }
     ensures { λ _. ⌜ now (event .exit) ≡ row found ⌝ }
 {
-    match found {
-        Event::Started { ticket } => put_row(event, 1, ticket, 0),
-        Event::Granted { ticket, record } => put_row(event, 2, ticket, record),
-        Event::Touched { ticket, record } => put_row(event, 3, ticket, record),
-        Event::Released { ticket, record } => put_row(event, 4, ticket, record),
-        Event::Finished { ticket } => put_row(event, 5, ticket, 0),
-    }
+    put_word(event, 0, kind_of(found));
+    put_word(event, 1, ticket_of(found));
+    put_word(event, 2, record_of(found));
 }
 
 // Reads the event at the front of the rest of a trace.
