@@ -4,6 +4,7 @@ pub mod damage;
 pub mod desk_files;
 pub mod order_files;
 pub mod rng;
+pub mod sweep;
 
 use rng::Rng;
 

@@ -42,7 +42,7 @@ same-length : tie.Need-same-length
 same-length c = search needs
 
 returns : tie.Need-returns
-returns c = search stored
+returns c = stored (c .before .before .before .before .before .before .before .before .before .before .before .before .before .before .before .before .args .event .now) (c .before .before .before .before .before .before .before .before .before .before .before .before .before .before .before .before .args .found) (c .before .before .before .before .before .before .before .before .before .before .before .before .before .before .before .before .pre) (c .before .before .before .before .before .before .before .before .before .before .before .before .before .kind-of .ensures) (c .before .before .before .before .before .before .before .before .before .before .before .before .put-word .ensures) (c .before .before .before .before .before .before .before .before .ticket-of .ensures) (c .before .before .before .before .before .before .before .put-word2 .ensures) (c .before .before .before .record-of .ensures) (c .before .before .put-word3 .ensures)
 
 pub put-event-spec : {M : Type 1} → statement M
 put-event-spec =
