@@ -5,15 +5,12 @@ use Prim.Native.Nat.{ℕ, _+_, _-_, _≤_}
 use mathlib.Core.List.{List, [], _∷_, _++_, reverse, reverse-cons, append-assoc, append-nil}
 use lib.ListN.{length, take, drop, length-append, length-drop}
 use lib.Seq.{length-take-le, take-at}
-use lib.Dec.{ltb}
 use native.Mathlib.Omega.{arith}
-use Rattle.words.specs.Tests.{either, clash}
+use Rattle.words.specs.Tests.{clash}
 use Rattle.words.specs.Parts.{part-rest, part-none}
 use Rattle.trace.specs.declared.Event.{Event}
-use Rattle.trace.specs.declared.Event.the-variants.{Started, Granted, Touched, Released, Finished}
 use Rattle.trace.specs.declared.Writing.{Writing}
 use Rattle.trace.specs.Answers.{written, writingSaid}
-use Rattle.trace.specs.Numbers.{spellNumber}
 use Rattle.trace.specs.Events.{spell, fair, Wrote, wrote, writeAt}
 use Rattle.trace.specs.EventLaws.{write-done, event-long}
 use Rattle.trace.specs.WriteLaws.{Puts, unfair, full, done, puts}

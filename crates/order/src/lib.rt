@@ -91,24 +91,11 @@ fn walk_trace(
             }
             return settle(befores, touching, table, list);
         };
-        if TICKETS < ticket_of(event) as usize {
+        if TICKETS < trace::ticket_of(event) as usize {
             return Answer::FarTicket { at };
         }
         note_event(touchers, befores, touching, event);
         at += length;
-    }
-}
-
-// An event's ticket.
-fn ticket_of(event: Event) -> u32
-    ensures { λ r. ⌜ r ≡ ticketOf event ⌝ }
-{
-    match event {
-        Event::Started { ticket } => ticket,
-        Event::Granted { ticket, .. } => ticket,
-        Event::Touched { ticket, .. } => ticket,
-        Event::Released { ticket, .. } => ticket,
-        Event::Finished { ticket } => ticket,
     }
 }
 

@@ -5,7 +5,7 @@ ghost use lib.ListN.{length, set};
 ghost use Rattle.words.specs.Tests.{pick};
 ghost use Rattle.words.specs.Word.{put};
 ghost use Rattle.trace.specs.Events.{writeAt};
-ghost use Rattle.trace.specs.Causes.{ticketOf, recordOf};
+ghost use Rattle.trace.specs.Causes.{recordOf};
 ghost use Rattle.desk.specs.Answers.{said, clearSaid};
 ghost use Rattle.desk.specs.Limits.{seats};
 ghost use Rattle.desk.specs.Step.{state};
@@ -283,19 +283,6 @@ fn kind_of(event: Event) -> u32
     }
 }
 
-// The ticket of an event.
-fn ticket_of(event: Event) -> u32
-    ensures { λ r. ⌜ r ≡ ticketOf event ⌝ }
-{
-    match event {
-        Event::Started { ticket } => ticket,
-        Event::Granted { ticket, .. } => ticket,
-        Event::Touched { ticket, .. } => ticket,
-        Event::Released { ticket, .. } => ticket,
-        Event::Finished { ticket } => ticket,
-    }
-}
-
 // The record of an event, or 0 where it has none.
 fn record_of(event: Event) -> u32
     ensures { λ r. ⌜ r ≡ recordOf event ⌝ }
@@ -315,7 +302,7 @@ fn put_event(event: &mut [u32], found: Event)
     ensures { λ _. ⌜ now (event .exit) ≡ row found ⌝ }
 {
     put_word(event, 0, kind_of(found));
-    put_word(event, 1, ticket_of(found));
+    put_word(event, 1, trace::ticket_of(found));
     put_word(event, 2, record_of(found));
 }
 

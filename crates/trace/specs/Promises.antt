@@ -7,6 +7,7 @@ use lib.Dec.{eqb}
 use Rattle.trace.specs.Answers.{number, NumberSaid, value, no-value, numberSaid, ReadingSaid, event, end, no-event, readingSaid, WritingSaid, written, unwritten, writingSaid}
 use Rattle.trace.specs.Numbers.{readNumber}
 use Rattle.trace.specs.Events.{readAt, Wrote, wrote, writeAt}
+use Rattle.trace.specs.Causes.{ticketOf}
 use Rattle.trace.specs.declared.Event.{Event}
 use Rattle.trace.specs.declared.Fault.{Fault}
 use Rattle.trace.specs.declared.Fault.the-variants.{Cut, Spelling, Kind, Range, Room}
@@ -77,9 +78,13 @@ reading-once = once readingSaid reading reading-said
 pub writing-once : (r r′ : Writing) → writingSaid r ≡ writingSaid r′ → r ≡ r′
 writing-once = once writingSaid writing writing-said
 
--- `refusal`: one number for a fault
+-- `refusal_number`: one number for a fault
 pub one-refusal : (r r′ : ℕ) (f : Fault) → r ≡ number f → r′ ≡ number f → r ≡ r′
 one-refusal r r′ f p q = p ∙ sym q
+
+-- `ticket_of`: one ticket for an event
+pub one-ticket : (r r′ : ℕ) (e : Event) → r ≡ ticketOf e → r′ ≡ ticketOf e → r ≡ r′
+one-ticket r r′ e p q = p ∙ sym q
 
 -- `number`: one answer for an input
 pub one-number : (r r′ : Numeral) (l : List ℕ) → numberSaid r ≡ readNumber l → numberSaid r′ ≡ readNumber l → r ≡ r′

@@ -7,6 +7,7 @@ ghost use Rattle.words.specs.Parts.{over, lay};
 ghost use Rattle.trace.specs.Limits.{limit};
 ghost use Rattle.trace.specs.Answers.{number, numberSaid, readingSaid};
 ghost use Rattle.trace.specs.Numbers.{readNumber, spellNumber, judge};
+ghost use Rattle.trace.specs.Causes.{ticketOf};
 ghost use Rattle.trace.specs.Events.{fairTicket, fairPair, pairSaid, readAt, readTicket, asRecord, recorded, readNumbers, ofPair, put, wrote, writeAt};
 
 // The largest number, and so the largest ticket. It stands once more, in specs/Limits.antt.
@@ -72,6 +73,19 @@ pub fn refusal_number(fault: Fault) -> u32
         Fault::Kind => 22,
         Fault::Range => 23,
         Fault::Room => 24,
+    }
+}
+
+// The ticket of an event.
+pub fn ticket_of(event: Event) -> u32
+    ensures { λ r. ⌜ r ≡ ticketOf event ⌝ }
+{
+    match event {
+        Event::Started { ticket } => ticket,
+        Event::Granted { ticket, .. } => ticket,
+        Event::Touched { ticket, .. } => ticket,
+        Event::Released { ticket, .. } => ticket,
+        Event::Finished { ticket } => ticket,
     }
 }
 

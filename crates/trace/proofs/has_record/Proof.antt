@@ -1,6 +1,5 @@
 -- `trace::has_record` meets its contract: the first test decides, or the second does.
 use Rattle.words.specs.Tests.{tests}
-use borrow.Author.Needs.{needs}
 use Rattle.trace.proofs.has_record.Statement.{statement}
 use Rattle.trace.proofs.has_record.Tie as tie
 
