@@ -40,6 +40,7 @@ leftCleared r h l d = record { says = r; held = h; released = l; desk = d }
 abbrev pub clearedAs : ClearOutcome → ClearLeft
 clearedAs o = leftCleared (clearCode (o .says)) (o .left .held) (o .left .released) (wordsOf (o .left .desk))
 
+-- the call: 99 and nothing changed for a desk that is not 67 words, else the clearing
 unfoldable pub clearCall : List ℕ → List ℕ → List ℕ → ClearLeft
 clearCall h l d = pick (eqb (length d) deskWords) (clearedAs (clearing seats h l)) (leftCleared wrongLength h l d)
 
@@ -89,6 +90,7 @@ abbrev pub judgedAll : State → List ℕ → ℕ → JudgeLeft
 judgedAll st q n =
     leftJudged judgedCode (stateAt st q n .held) (stateAt st q n .released) (wordsOf (stateAt st q n .desk)) (each n (answerAt st q))
 
+-- the call: 99 and nothing changed for a desk that is not 67 words, or not three words of requests to each answer; else all are judged
 unfoldable pub judgeCall : List ℕ → List ℕ → List ℕ → List ℕ → List ℕ → JudgeLeft
 judgeCall h l d q a =
     pick (eqb (length d) deskWords && eqb (length q) (requestWords * length a)) (judgedAll (state h l (deskOf d)) q (length a))
@@ -99,9 +101,11 @@ pub record Told : Type 0 where
   pub answer : ℕ
   pub left : State
 
+-- an outcome, with what is said as a number
 abbrev pub told : Outcome → Told
 told o = record { answer = saidCode (o .says); left = o .left }
 
+-- the code's result, with the tables after it
 abbrev pub turnedAs : Turned → List ℕ → List ℕ → Told
 turnedAs r h l = record { answer = r .answer; left = state h l (r .desk) }
 
@@ -133,6 +137,7 @@ rowOf (event x n) e = row x
 rowOf end e = e
 rowOf (no-event k) e = e
 
+-- the call: 99 and nothing changed for an event that is not three words, else the reading
 unfoldable pub readCall : List ℕ → List ℕ → ReadLeft
 readCall rest e = pick (eqb (length e) eventWords) (leftRead (readCode (readAt rest)) (rowOf (readAt rest) e)) (leftRead wrongLength e)
 
@@ -171,8 +176,10 @@ pub record OrderLeft : Type 0 where
 abbrev pub leftOrder : ℕ → List ℕ → List ℕ → OrderLeft
 leftOrder r table list = record { says = r; table = table; list = list }
 
+-- the order call's answer as a number
 abbrev pub orderedAs : Call → OrderLeft
 orderedAs c = leftOrder (orderCode (c .says)) (c .table) (c .list)
 
+-- the call: as the order call
 abbrev pub orderCall : List ℕ → List ℕ → List ℕ → OrderLeft
 orderCall trace table list = orderedAs (orderOf trace table list)
