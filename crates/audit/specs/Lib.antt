@@ -1,0 +1,4 @@
+-- Definitions
+pub mod Answers
+pub mod Audit
+pub mod Takes
