@@ -42,7 +42,7 @@ module _ (P : Outcome → Type 0) (st : State) (s a : ℕ) (f : ℕ → ℕ → 
       either P (not (seatAt (st .desk) s .live)) (λ l. five (leb-false _ _ e) (not-true _ l)) (λ l. on (leb-false _ _ e) (not-false _ l)))
 
 -- what is allowed is done, or something is told
-ruled-ways : (P : Outcome → Type 0) (st : State) (o : Outcome) → P o → ((x : Said) → P (outcome x st)) → (r : Rule) → P (ruled r st o)
+pub ruled-ways : (P : Outcome → Type 0) (st : State) (o : Outcome) → P o → ((x : Said) → P (outcome x st)) → (r : Rule) → P (ruled r st o)
 unfolding ruled
 ruled-ways P st o p f allowed = p
 ruled-ways P st o p f (told x) = f x

@@ -70,7 +70,7 @@ unfolding readAll readAt
 all-end zero = refl
 all-end (suc f) = refl
 
-all-event : (f : ℕ) (l : List ℕ) {e : Event} {n : ℕ} → readAt l ≡ event e n → readAll (suc f) l ≡ then e (readAll f (drop n l))
+pub all-event : (f : ℕ) (l : List ℕ) {e : Event} {n : ℕ} → readAt l ≡ event e n → readAll (suc f) l ≡ then e (readAll f (drop n l))
 unfolding readAll
 all-event f l h = rw (h, readAll)
 

@@ -1,58 +1,55 @@
+-- `audit::lowest_seat` meets its contract: none of the seats passed suits the event.
+use mathlib.Core.Path.{_≡_}
+use mathlib.Core.Bool.{false}
+use Prim.Native.Nat.{ℕ, _-_, _≤_, _<_}
+use native.Mathlib.Omega.{arith}
+use borrow.Author.Count.{below-none, below-more}
+use lib.ListN.{getD}
+use Rattle.desk.specs.Step.{freeSeat}
+use Rattle.audit.specs.Audit.{suits}
+use Rattle.audit.proofs.Asking.{lowest-found, lowest-none}
+use borrow.Author.Needs.{needs}
 use Rattle.audit.proofs.lowest_seat.Statement.{statement}
 use Rattle.audit.proofs.lowest_seat.Tie as tie
-use Rattle.audit.proofs.lowest_seat.Reads as reads
-use Rattle.audit.proofs.lowest_seat.Lts as lts
-use Rattle.audit.proofs.suits_event.Reads as suits-event-reads
 
 abbrev Inv-loop : tie.InvT-loop
-Inv-loop event all i₀ i = ?
+Inv-loop event all i₀ i = (i ≤ 32) × ((k : ℕ) → k < i → suits event (getD all k freeSeat) ≡ false)
 
 abbrev μ-loop : tie.MeasureT-loop
-μ-loop event all i₀ i = ?
+μ-loop event all i₀ i = 32 - i
 
--- src/lib.rt:91:5
 loop-holds : tie.Need-loop-holds Inv-loop μ-loop
-loop-holds c = ?
+loop-holds c = (omega arith, below-none _)
 
--- src/lib.rt:92:24
 mul-suits-event : tie.Need-mul-suits-event Inv-loop μ-loop
-mul-suits-event c = ?
+mul-suits-event c = search needs
 
--- src/lib.rt:92:24
 array-copy-out-suits-event : tie.Need-array-copy-out-suits-event Inv-loop μ-loop
-array-copy-out-suits-event c = ?
+array-copy-out-suits-event c = search needs
 
--- src/lib.rt:92:12
 suits-event-requires : tie.Need-suits-event-requires Inv-loop μ-loop
-suits-event-requires c κs = ?
+suits-event-requires c κs = search needs
 
--- src/lib.rt:93:20
 cast-result : tie.Need-cast-result Inv-loop μ-loop
-cast-result c = ?
+cast-result c = search needs
 
--- src/lib.rt:93:13
 returns : tie.Need-returns Inv-loop μ-loop
-returns c = ?
+returns c = lowest-found _ _ freeSeat _ (omega arith) (c .before .before .before .before .loop .inv .1) (cc)
 
--- src/lib.rt:95:9
 add-i : tie.Need-add-i Inv-loop μ-loop
-add-i c = ?
+add-i c = search needs
 
--- src/lib.rt:91:5
 loop-less : tie.Need-loop-less Inv-loop μ-loop
-loop-less c = ?
+loop-less c = search needs
 
--- src/lib.rt:91:5
 loop-again : tie.Need-loop-again Inv-loop μ-loop
-loop-again c = ?
+loop-again c = (omega arith, below-more _ _ (c .before .before .before .before .loop .inv .1) (cc))
 
--- src/lib.rt:97:5
 cast-result-2 : tie.Need-cast-result-2 Inv-loop μ-loop
-cast-result-2 c = ?
+cast-result-2 c = search needs
 
--- src/lib.rt:87:1
 returns-2 : tie.Need-returns-2 Inv-loop μ-loop
-returns-2 c = ?
+returns-2 c = lowest-none _ _ freeSeat 32 (search needs) (λ k q. c .before .loop .inv .1 k (omega arith))
 
 pub lowest-seat-spec : {M : Type 1} → statement M
 lowest-seat-spec =

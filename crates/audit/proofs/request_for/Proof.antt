@@ -1,48 +1,37 @@
+-- `audit::request_for` meets its contract: in each arm the event is the one that the arm names.
 use borrow.Author.Needs.{needs}
 use Rattle.audit.proofs.request_for.Statement.{statement}
 use Rattle.audit.proofs.request_for.Tie as tie
-use Rattle.audit.proofs.request_for.Reads as reads
-use Rattle.audit.proofs.request_for.Lts as lts
 
--- src/lib.rt:125:34
 enum-told : tie.Need-enum-told
 enum-told c = search needs
 
--- src/lib.rt:126:26
 enum-known-event : tie.Need-enum-known-event
 enum-known-event c = search needs
 
--- src/lib.rt:127:26
 enum-known-event-2 : tie.Need-enum-known-event-2
 enum-known-event-2 c = search needs
 
--- src/lib.rt:128:27
 enum-known-event-3 : tie.Need-enum-known-event-3
 enum-known-event-3 c = search needs
 
--- src/lib.rt:129:35
 enum-told-2 : tie.Need-enum-told-2
 enum-told-2 c = search needs
 
--- src/lib.rt:121:1
 returns : tie.Need-returns
-returns c = ?
+returns c = cc
 
--- src/lib.rt:121:1
 returns-2 : tie.Need-returns-2
-returns-2 c = ?
+returns-2 c = cc
 
--- src/lib.rt:121:1
 returns-3 : tie.Need-returns-3
-returns-3 c = ?
+returns-3 c = cc
 
--- src/lib.rt:121:1
 returns-4 : tie.Need-returns-4
-returns-4 c = ?
+returns-4 c = cc
 
--- src/lib.rt:121:1
 returns-5 : tie.Need-returns-5
-returns-5 c = ?
+returns-5 c = cc
 
 pub request-for-spec : {M : Type 1} → statement M
 request-for-spec =
