@@ -1,4 +1,4 @@
--- The desk program's limits; those of seats, numbers, traces and orders are the crates' below.
+-- The programs' limits; those of seats, numbers, traces and orders are the crates' below.
 use Prim.Native.Nat.{ℕ}
 
 -- how many bytes a request file may have
@@ -24,3 +24,11 @@ orderTextBytes = 5403
 -- how many bytes the desk program prints at most: a line for each two bytes, and an order
 abbrev pub deskTextBytes : ℕ
 deskTextBytes = 242971
+
+-- how many bytes a trace that the audit program checks may have
+abbrev pub auditBytes : ℕ
+auditBytes = 4194304
+
+-- how many bytes it prints at most: two words of eight and four, two numbers of twenty digits, and the line's end
+abbrev pub auditTextBytes : ℕ
+auditTextBytes = 53

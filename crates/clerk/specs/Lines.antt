@@ -1,13 +1,20 @@
 -- The lines that the programs print, as ASCII bytes.
 use Prim.Native.Nat.{ℕ, _≤_}
 use mathlib.Core.List.{List, [], _∷_, _++_}
+use lib.Dec.{leb}
 use lib.ListN.{length, take, replicate}
+use Rattle.words.specs.Tests.{pick}
+use Rattle.trace.specs.Limits.{records}
 use Rattle.desk.specs.Answers.{Said, started, wait, refused, granted, held, touched, released, finished}
 use Rattle.order.specs.Limits.{tickets, tableWords}
 use Rattle.order.specs.Answers.{OrderSaid, ordered, Call}
 use Rattle.order.specs.Answers as order-answers
 use Rattle.order.specs.Order.{orderOf}
+use Rattle.audit.specs.Answers.{AuditSaid, accepted}
+use Rattle.audit.specs.Answers as audit-answers
+use Rattle.audit.specs.Audit.{auditOf}
 use Rattle.text.specs.Lines.{lineOf, refusedAt, refusedWord}
+use Rattle.clerk.specs.Limits.{auditBytes}
 
 -- "order "
 abbrev pub orderWord : List ℕ
@@ -54,6 +61,19 @@ orderLines (order-answers.refused n offset) list = refusedAt n offset
 -- what the order program prints of a trace: what the order call says, lent a table and a list of zeros
 unfoldable pub orderText : List ℕ → List ℕ
 orderText trace = let c : Call = orderOf trace (replicate tableWords 0) (replicate tickets 0) in orderLines (c .says) (c .list)
+
+-- "accepted", or `refused N at OFFSET`
+unfoldable pub verdictLine : AuditSaid → List ℕ
+verdictLine accepted = 97 ∷ 99 ∷ 99 ∷ 101 ∷ 112 ∷ 116 ∷ 101 ∷ 100 ∷ 10 ∷ []
+verdictLine (audit-answers.refused n offset) = refusedAt n offset
+
+-- what the check says of a trace, lent two tables of zeros
+abbrev pub verdictOf : List ℕ → AuditSaid
+verdictOf trace = auditOf trace (replicate records 0) (replicate records 0) .says
+
+-- what the audit program prints of a trace: at most 4,194,304 bytes, else the one line `refused 26 at 0`
+unfoldable pub auditText : List ℕ → List ℕ
+auditText trace = pick (leb (length trace) auditBytes) (verdictLine (verdictOf trace)) (refusedAt 26 0)
 
 -- an order has at most as many tickets as the list has places
 pub data Within : OrderSaid → List ℕ → Type 0 where

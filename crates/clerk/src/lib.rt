@@ -1,4 +1,4 @@
-// The clerk: takes a request file to the desk, keeps the trace, and prints what the two programs print.
+// The clerk: takes a request file to the desk, keeps the trace, and prints what the programs print.
 ghost use mathlib.Core.Path.{_≡_};
 ghost use mathlib.Core.List.{[]};
 ghost use Prim.Native.Nat.{_+_, _≤_, _<_};
@@ -16,10 +16,12 @@ ghost use Rattle.trace.specs.Limits.{eventBytes};
 ghost use Rattle.clerk.specs.Limits.{fileBytes, roomBytes};
 ghost use Rattle.clerk.specs.Answers.{askedSaid, coupleSaid};
 ghost use Rattle.clerk.specs.Requests.{readSeat, asRecord, readPair, ofSeat, ofPair, readRequest};
-ghost use Rattle.clerk.specs.Lines.{line, ticketLines, listed, orderLines, orderText, Within};
+ghost use Rattle.audit.specs.Answers.{auditSaid};
+ghost use Rattle.clerk.specs.Lines.{line, ticketLines, listed, orderLines, orderText, verdictLine, auditText, Within};
 ghost use Rattle.clerk.specs.Rooms.{filled, noteEvent, notes};
 ghost use Rattle.clerk.specs.Files.{after, requestsOf, textOf, deskText};
 ghost use Rattle.clerk.specs.Turns.{Turned, Counted};
+use audit::Verdict;
 use desk::Answer;
 use desk::Desk;
 use desk::Request;
@@ -29,7 +31,7 @@ use trace::Fault;
 use trace::Numeral;
 use trace::Writing;
 
-// How many bytes a request file may have. It stands once more, in specs/Limits.antt, as do the next four.
+// How many bytes a request file may have. It stands once more, in specs/Limits.antt, as do the next six.
 pub const FILE_BYTES: usize = 16384;
 
 // How many records the desk program's tables have.
@@ -43,6 +45,15 @@ pub const ORDER_TEXT: usize = 5403;
 
 // How many bytes the desk program prints at most: 8,192 lines of 29, and an order.
 pub const DESK_TEXT: usize = 242971;
+
+// How many bytes a trace that the audit program checks may have.
+pub const AUDIT_BYTES: usize = 4194304;
+
+// How many bytes the audit program prints at most.
+pub const AUDIT_TEXT: usize = 53;
+
+// How many words each table of the audit has: one for each record.
+const AUDIT_TABLE: usize = trace::RECORDS as usize;
 
 // What stands at the front of the rest of a request file.
 pub enum Asked {
@@ -293,6 +304,20 @@ fn put_order(out: &mut [u8], at: usize, trace: &[u8]) -> usize
     put_called(out, at, said, &list)
 }
 
+// Puts what the trace check says.
+fn put_verdict(out: &mut [u8], at: usize, verdict: Verdict) -> usize
+    ensures { λ r. ⌜ placed (now (out .exit)) r ≡ puts (verdictLine (auditSaid verdict)) (placed (now (out .entry)) at) ⌝ }
+{
+    match verdict {
+        Verdict::Accepted => text::put_bytes(out, at, b"accepted\n"),
+        Verdict::WrongLength => text::put_refused(out, at, 1, 0),
+        Verdict::Unread { fault, at: offset } => {
+            text::put_refused(out, at, trace::refusal_number(fault) as usize, offset)
+        }
+        Verdict::NotAllowed { at: offset } => text::put_refused(out, at, 40, offset),
+    }
+}
+
 // ---- the trace
 
 // Writes an event at the front of the unused rest of the room, and gives how much is used then.
@@ -437,7 +462,7 @@ fn serve(
     }
 }
 
-// ---- the two programs
+// ---- the programs
 
 // What the desk program prints of a request file, at the front of a text buffer, and how long it is; of a longer text as much as there is room for.
 pub fn desk_text(input: &[u8], out: &mut [u8]) -> usize
@@ -461,4 +486,18 @@ pub fn order_text(trace: &[u8], out: &mut [u8]) -> usize
     ensures { λ r. ⌜ Counted r (now (out .exit)) ⌝ }
 {
     put_order(out, 0, trace)
+}
+
+// What the audit program prints of a trace, in the same way.
+pub fn audit_text(trace: &[u8], out: &mut [u8]) -> usize
+    ensures { λ r. ⌜ placed (now (out .exit)) r ≡ puts (auditText (now (trace .entry))) (placed (now (out .entry)) 0) ⌝ }
+    ensures { λ r. ⌜ Counted r (now (out .exit)) ⌝ }
+{
+    if AUDIT_BYTES < trace.len() {
+        return text::put_refused(out, 0, 26, 0);
+    }
+    let mut held = [0u32; AUDIT_TABLE];
+    let mut released = [0u32; AUDIT_TABLE];
+    let verdict = audit::audit_of(trace, &mut held, &mut released);
+    put_verdict(out, 0, verdict)
 }

@@ -4,17 +4,14 @@ use mathlib.Core.Bool.{cond}
 use Prim.Native.Nat.{ℕ}
 use mathlib.Core.List.{List}
 use lib.Dec.{eqb}
-use Rattle.trace.specs.declared.Fault.{Fault}
 use Rattle.trace.specs.declared.Fault.the-variants.{Cut, Spelling, Kind, Range, Room}
+use Rattle.trace.specs.Promises.{fault}
 use Rattle.order.specs.Answers.{OrderSaid, ordered, refused, orderSaid, Call, called}
 use Rattle.order.specs.Order.{orderOf}
 use Rattle.order.specs.declared.Answer.{Answer}
 use Rattle.order.specs.declared.Answer.the-variants.{Ordered, WrongLength, TooLong, Unread, FarTicket, Ring}
 
 -- the answer that says it
-fault : ℕ → Fault
-fault n = cond (eqb n 20) Cut (cond (eqb n 21) Spelling (cond (eqb n 22) Kind (cond (eqb n 23) Range Room)))
-
 answer : OrderSaid → Answer
 answer (ordered k) = Ordered k
 answer (refused k at) =

@@ -19,7 +19,7 @@ use Rattle.trace.specs.declared.Writing.{Writing}
 use Rattle.trace.specs.declared.Writing.the-variants.{Written, Unwritten}
 
 -- the answers that say it
-fault : ℕ → Fault
+unfoldable pub fault : ℕ → Fault
 fault n = cond (eqb n 20) Cut (cond (eqb n 21) Spelling (cond (eqb n 22) Kind (cond (eqb n 23) Range Room)))
 
 numeral : NumberSaid → Numeral
