@@ -11,12 +11,12 @@ use Rattle.trace.specs.Promises.{number-once}
 use Rattle.text.specs.Places.{Placed, placed, puts}
 use Rattle.text.specs.PlaceLaws.{puts-front}
 use Rattle.text.specs.Promises.{one-placed}
-use Rattle.clerk.specs.Limits.{orderTextBytes, deskTextBytes}
+use Rattle.clerk.specs.Limits.{orderTextBytes, deskTextBytes, auditTextBytes}
 use Rattle.clerk.specs.Answers.{askedSaid}
 use Rattle.clerk.specs.Requests.{readRequest}
-use Rattle.clerk.specs.Lines.{orderText}
+use Rattle.clerk.specs.Lines.{orderText, auditText}
 use Rattle.clerk.specs.Files.{deskText}
-use Rattle.clerk.specs.Sizes.{order-text-fits, desk-text-fits}
+use Rattle.clerk.specs.Sizes.{order-text-fits, desk-text-fits, audit-text-fits}
 use Rattle.clerk.specs.declared.Asked.{Asked}
 use Rattle.clerk.specs.declared.Asked.the-variants.{Found, End, Unread}
 
@@ -44,6 +44,10 @@ one-desk-text r r′ t t′ input out p q = one-placed r r′ t t′ (puts (desk
 pub one-order-text : (r r′ : ℕ) (t t′ trace out : List ℕ) → placed t r ≡ puts (orderText trace) (placed out 0) → placed t′ r′ ≡ puts (orderText trace) (placed out 0) → (r ≡ r′) × (t ≡ t′)
 one-order-text r r′ t t′ trace out p q = one-placed r r′ t t′ (puts (orderText trace) (placed out 0)) p q
 
+-- `audit_text`: one length and one buffer after it, for a trace and a buffer
+pub one-audit-text : (r r′ : ℕ) (t t′ trace out : List ℕ) → placed t r ≡ puts (auditText trace) (placed out 0) → placed t′ r′ ≡ puts (auditText trace) (placed out 0) → (r ≡ r′) × (t ≡ t′)
+one-audit-text r r′ t t′ trace out p q = one-placed r r′ t t′ (puts (auditText trace) (placed out 0)) p q
+
 -- ---- a buffer that is long enough holds the whole text
 
 -- the first r bytes of the buffer are the text
@@ -59,3 +63,6 @@ desk-prints input out t r by h p = whole (deskText input) out t r (omega (arith,
 -- and so for a trace
 pub order-prints : (trace out t : List ℕ) (r : ℕ) → orderTextBytes ≤ length out → placed t r ≡ puts (orderText trace) (placed out 0) → take r t ≡ orderText trace
 order-prints trace out t r h p = whole (orderText trace) out t r (omega (arith, order-text-fits trace)) p
+
+pub audit-prints : (trace out t : List ℕ) (r : ℕ) → auditTextBytes ≤ length out → placed t r ≡ puts (auditText trace) (placed out 0) → take r t ≡ auditText trace
+audit-prints trace out t r h p = whole (auditText trace) out t r (omega (arith, audit-text-fits trace)) p

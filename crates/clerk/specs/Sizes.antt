@@ -1,10 +1,11 @@
--- Sizes: how many requests a file has, and how long its trace and the texts of both programs are at most.
+-- Sizes: how many requests a file has, and how long its trace and the programs' texts are at most.
 use Prim.Native.Nat.{ℕ, zero, suc, _+_, _*_, _<_, _≤_}
 use mathlib.Core.Path.{_≡_, refl, ap}
 use mathlib.Core.List.{List, [], _∷_}
 use lib.ListN.{length, take, drop, replicate, length-append, length-drop, length-take}
 use native.Mathlib.Omega.{arith}
-use Rattle.words.specs.Tests.{below}
+use lib.Dec.{leb}
+use Rattle.words.specs.Tests.{either, below}
 use mathlib.Core.Logic.{⊎-elim}
 use Rattle.words.specs.Parts.{Bytes, bytes-rest}
 use Rattle.trace.specs.History.{History}
@@ -16,15 +17,17 @@ use Rattle.order.specs.Limits.{tickets, tableWords}
 use Rattle.order.specs.Answers.{OrderSaid, ordered, Call}
 use Rattle.order.specs.Answers as order-answers
 use Rattle.order.specs.Order.{orderOf}
+use Rattle.audit.specs.Answers.{AuditSaid, accepted}
+use Rattle.audit.specs.Answers as audit-answers
 use Rattle.demands.specs.Run.{Moment, recordOf, next, afterAll}
 use Rattle.text.specs.Lines.{atWord, refusedAt}
 use Rattle.text.specs.LineLaws.{numeral-long, line-of-long}
 use Rattle.trace.specs.Limits.{eventBytes}
-use Rattle.clerk.specs.Limits.{fileBytes, roomBytes, lineBytes, orderTextBytes, deskTextBytes}
+use Rattle.clerk.specs.Limits.{fileBytes, roomBytes, lineBytes, orderTextBytes, deskTextBytes, auditBytes, auditTextBytes}
 use Rattle.clerk.specs.Answers.{AskedSaid, request, end, no-request}
 use Rattle.clerk.specs.Requests.{readRequest}
 use Rattle.clerk.specs.RequestLaws.{request-here}
-use Rattle.clerk.specs.Lines.{orderWord, line, lines, ticketLines, listed, orderLines, orderText}
+use Rattle.clerk.specs.Lines.{orderWord, line, lines, ticketLines, listed, orderLines, orderText, verdictLine, verdictOf, auditText}
 use Rattle.order.specs.Theorems.{ordered-few}
 use Rattle.clerk.specs.RoomLaws.{called-long}
 use Rattle.clerk.specs.Files.{Ending, all, fault, requestsBy, requestsFrom, requestsOf, after, answers, closing, deskText}
@@ -136,3 +139,12 @@ desk-text-fits input by = ⊎-elim long short (below fileBytes (length input))
     short h =
         let r = requestsOf input in
         rw (text-short input h) (simp length-append (omega (arith, lines-long (answers (after []) (r .asked)), answers-many (after []) (r .asked), closing-long (r .ending) (after (r .asked) .history), requests-few input by)))
+
+-- the audit program's
+pub audit-text-fits : (trace : List ℕ) → length (auditText trace) ≤ auditTextBytes
+unfolding auditText verdictLine
+audit-text-fits trace = either (λ (s : List ℕ). length s ≤ auditTextBytes) (leb (length trace) auditBytes) (λ e. go (verdictOf trace)) (λ e. refused-long 26 0)
+  where
+    go : (x : AuditSaid) → length (verdictLine x) ≤ auditTextBytes
+    go accepted = omega arith
+    go (audit-answers.refused n offset) = refused-long n offset
