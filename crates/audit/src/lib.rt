@@ -87,12 +87,13 @@ fn take(held: &mut [u32], released: &mut [u32], desk: Desk, event: Event) -> Tak
 fn lowest_seat(all: [Seat; desk::SEATS], event: Event) -> u32
     ensures { λ r. ⌜ r ≡ lowest (suits event) all ⌝ }
 {
-    let mut i = 0;
-    while i < desk::SEATS {
+    let mut left = desk::SEATS;
+    while 0 < left {
+        let i = desk::SEATS - left;
         if suits_event(all[i], event) {
             return i as u32;
         }
-        i += 1;
+        left -= 1;
     }
     desk::SEATS as u32
 }

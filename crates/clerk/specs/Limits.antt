@@ -27,7 +27,7 @@ deskTextBytes = 242971
 
 -- how many bytes a trace that the audit program checks may have
 abbrev pub auditBytes : ℕ
-auditBytes = 4194304
+auditBytes = 524288
 
 -- how many bytes it prints at most: two words of eight and four, two numbers of twenty digits, and the line's end
 abbrev pub auditTextBytes : ℕ

@@ -71,7 +71,7 @@ verdictLine (audit-answers.refused n offset) = refusedAt n offset
 abbrev pub verdictOf : List ℕ → AuditSaid
 verdictOf trace = auditOf trace (replicate records 0) (replicate records 0) .says
 
--- what the audit program prints of a trace: at most 4,194,304 bytes, else the one line `refused 26 at 0`
+-- what the audit program prints of a trace: at most 524,288 bytes, else the one line `refused 26 at 0`
 unfoldable pub auditText : List ℕ → List ℕ
 auditText trace = pick (leb (length trace) auditBytes) (verdictLine (verdictOf trace)) (refusedAt 26 0)
 

@@ -47,7 +47,7 @@ pub const ORDER_TEXT: usize = 5403;
 pub const DESK_TEXT: usize = 242971;
 
 // How many bytes a trace that the audit program checks may have.
-pub const AUDIT_BYTES: usize = 4194304;
+pub const AUDIT_BYTES: usize = 524288;
 
 // How many bytes the audit program prints at most.
 pub const AUDIT_TEXT: usize = 53;

@@ -1,10 +1,27 @@
 -- `audit::audit_of` meets its contract: tables of another length are refused, else the clearing and the walk follow one another.
 use Rattle.words.specs.Tests.{tests, pick}
-use Rattle.audit.specs.Audit.{auditOf}
-use Rattle.audit.proofs.Asking.{audits}
+use Prim.Native.Nat.{ℕ}
+use mathlib.Core.Path.{_≡_, ap, _∙_}
+use mathlib.Core.List.{List}
+use borrow.Author.Tests.{eq-eqb}
+use lib.ListN.{length}
+use Rattle.trace.specs.Limits.{records}
+use Rattle.desk.specs.Limits.{seats}
+use Rattle.desk.specs.Step.{State, ClearOutcome, state, opened, clearing}
+use Rattle.desk.specs.declared.Opened.{Opened}
+use Rattle.audit.specs.Answers.{Call}
+use Rattle.audit.specs.Audit.{checkFrom, tables, auditOf}
 use borrow.Author.Needs.{needs}
 use Rattle.audit.proofs.audit_of.Statement.{statement}
 use Rattle.audit.proofs.audit_of.Tie as tie
+
+-- tables of the right length: the clearing, and then the walk
+audits : (trace h l h′ l′ : List ℕ) (o : Opened) (r : Call) → length h ≡ records → length l ≡ records → opened o h′ l′ ≡ clearing seats h l
+    → r ≡ tables (checkFrom trace (state h′ l′ (o .desk))) → r ≡ auditOf trace h l
+unfolding auditOf pick
+audits trace h l h′ l′ o r eh el did walked =
+    let same : state h′ l′ (o .desk) ≡ clearing seats h l .left = ap (λ (x : ClearOutcome). x .left) did in
+    rw (eq-eqb (length h) records eh, eq-eqb (length l) records el) (walked ∙ ap (λ (st : State). tables (checkFrom trace st)) same)
 
 returns : tie.Need-returns
 unfolding auditOf pick
