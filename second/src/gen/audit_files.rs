@@ -75,9 +75,8 @@ pub fn very_long(rng: &mut Rng) -> Vec<u8> {
     }
     let mut trace = [piece(1, &[1]), piece(2, &[1, 5]), piece(2, &[1, 200])].concat();
     // Touches of record 5 take three bytes and those of record 200 four.
-    while (LONGEST_AUDIT - trace.len()) % 3 != 0 {
-        trace.extend(piece(3, &[1, 200]));
-    }
+    let odd = (LONGEST_AUDIT - trace.len()) % 3;
+    trace.extend(piece(3, &[1, 200]).repeat(odd));
     let touches = (LONGEST_AUDIT - trace.len()) / 3;
     trace.extend(piece(3, &[1, 5]).repeat(touches));
     match rng.below(3) {
