@@ -43,7 +43,7 @@ fn follows(tables: &mut Tables, desk: &mut DeskRecord, event: Event) -> bool {
 }
 
 /// The request that calls for an event, unless no seat can ask it.
-fn request_for(desk: &DeskRecord, event: Event) -> Option<Request> {
+pub fn request_for(desk: &DeskRecord, event: Event) -> Option<Request> {
     let seat = seat_for(desk, event)?;
     Some(match event {
         Event::Started { .. } => Request::Begin { seat },

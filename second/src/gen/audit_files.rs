@@ -34,8 +34,8 @@ fn contended(rng: &mut Rng, floor: &mut Floor) {
 
 /// Every seat asks and few finish, so that all are live at times.
 fn crowded(rng: &mut Rng, floor: &mut Floor) {
-    let (records, finish) = (rng.between(2, 17), rng.pick(&[0, 1, 1, 2]));
-    let requests = rng.between(150, 500);
+    let (records, finish) = (rng.between(2, 17), rng.pick(&[0, 0, 1, 2]));
+    let requests = rng.between(200, 500);
     requests_of(rng, floor, (32, records, finish), requests);
 }
 

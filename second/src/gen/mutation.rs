@@ -15,13 +15,14 @@ pub fn mutated(rng: &mut Rng, floor: &Floor) -> Pieces {
         return pieces;
     }
     let (at, other) = (rng.place(pieces.len()), rng.place(pieces.len()));
-    match rng.below(10) {
+    match rng.below(12) {
         0 => drop(pieces.remove(at)),
         1 => pieces.insert(at, pieces[at].clone()),
         2 => pieces.swap(at, at.saturating_sub(1)),
         3 => pieces.swap(at, other),
         4 => change_byte(rng, &mut pieces[at]),
         5..=6 => pieces[at] = with_number_of(rng, &pieces[at], &pieces[other]),
+        7..=8 => start_one_more(&mut pieces, at),
         _ => return with_denied(rng, floor),
     }
     pieces
@@ -30,6 +31,12 @@ pub fn mutated(rng: &mut Rng, floor: &Floor) -> Pieces {
 /// One byte of an event becomes another.
 fn change_byte(rng: &mut Rng, event: &mut [u8]) {
     event[rng.place(event.len())] = rng.some_byte();
+}
+
+/// A change starts in turn at a place of the trace, where 32 may be live.
+fn start_one_more(pieces: &mut Pieces, at: usize) {
+    let starts = pieces[..at].iter().filter(|event| event[0] == 1).count();
+    pieces.insert(at, piece(1, &[starts as u32 + 1]));
 }
 
 /// An event with the kind, the ticket or the record of another event, or with its next number.
