@@ -3,43 +3,35 @@
 use crate::desk::{event_of, judge, DeskRecord, Tables, MOST_RECORDS};
 use crate::event::{each_event, Event};
 use crate::request::Request;
-use crate::RefusalAt;
+use crate::{Refusal, RefusalAt};
 
 /// The records of the two tables that the check is lent.
 pub const TABLE_RECORDS: usize = MOST_RECORDS;
 
-/// The audit call: accepts a trace or refuses it, and leaves the tables as after the last allowed event.
+/// The refusal of an event that reads and that the desk could not have written then.
+const NOT_ALLOWED: Refusal = 40;
+
+/// The audit call: a verdict, and the tables as after the last event that is allowed.
 pub fn audit(trace: &[u8], held: &mut [u32], released: &mut [u32]) -> Result<(), RefusalAt> {
     if held.len() != TABLE_RECORDS || released.len() != TABLE_RECORDS {
         return Err(RefusalAt { number: 1, offset: 0 });
     }
     let mut tables = Tables { held: vec![0; TABLE_RECORDS], released: vec![0; TABLE_RECORDS] };
     let mut desk = DeskRecord::default();
-    let verdict =
-        each_event(
-            trace,
-            |event| {
-                if follows(&mut tables, &mut desk, event) {
-                    Ok(())
-                } else {
-                    Err(40)
-                }
-            },
-        );
+    let verdict = each_event(trace, |event| follow(&mut tables, &mut desk, event));
     held.copy_from_slice(&tables.held);
     released.copy_from_slice(&tables.released);
     verdict
 }
 
-/// Whether the desk, asked for an event, writes that very event; if not, the tables are unchanged.
-fn follows(tables: &mut Tables, desk: &mut DeskRecord, event: Event) -> bool {
-    let Some(request) = request_for(desk, event) else {
-        return false;
-    };
+/// Asks the desk for an event; unless it writes that very event, refusal 40 and unchanged tables.
+fn follow(tables: &mut Tables, desk: &mut DeskRecord, event: Event) -> Result<(), Refusal> {
+    let request = request_for(desk, event).ok_or(NOT_ALLOWED)?;
     let before = *desk;
     let answer = judge(tables, desk, request);
-    // A start may be written with another ticket: it has altered no table.
-    event_of(request, answer, &before) == Some(event)
+    // A start that gets another ticket has altered no table.
+    let written = event_of(request, answer, &before);
+    (written == Some(event)).then_some(()).ok_or(NOT_ALLOWED)
 }
 
 /// The request that calls for an event, unless no seat can ask it.

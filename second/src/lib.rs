@@ -1,4 +1,4 @@
-//! The lock desk, its trace, its order and the trace check: a second program, written from the paper alone.
+//! The lock desk, its trace, order and trace check: a second program, from the paper alone.
 
 pub mod audit;
 pub mod desk;

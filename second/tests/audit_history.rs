@@ -1,4 +1,4 @@
-//! The trace check held against the history alone: which events it allows, and what the tables then hold.
+//! The trace check held against the history: the events it allows and the tables it leaves.
 
 mod rules;
 
