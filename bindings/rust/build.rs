@@ -1,4 +1,4 @@
-//! Links the two archives: from SALTLICKER_LIB, else from where `bin/library` leaves them.
+//! Links the three archives: from SALTLICKER_LIB, else from where `bin/library` leaves them.
 
 use std::path::PathBuf;
 
@@ -8,7 +8,7 @@ fn main() {
         .map_or(home.join("../../target/staticlib"), PathBuf::from);
     println!("cargo:rerun-if-env-changed=SALTLICKER_LIB");
     println!("cargo:rustc-link-search=native={}", folder.display());
-    for name in ["saltlicker", "saltlicker_text"] {
+    for name in ["saltlicker", "saltlicker_audit", "saltlicker_text"] {
         let archive = folder.join(format!("lib{name}.a"));
         if !archive.exists() {
             println!(

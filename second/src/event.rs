@@ -1,7 +1,7 @@
 //! Events of the trace: reading one from the front, writing one to the front.
 
 use crate::number::{read_number, write_number, LARGEST};
-use crate::Refusal;
+use crate::{Refusal, RefusalAt};
 
 /// The highest record an event may name.
 pub const LAST_RECORD: u32 = 4_095;
@@ -72,6 +72,20 @@ pub fn read_event(rest: &[u8]) -> Result<Option<(Event, usize)>, Refusal> {
         _ => Event::Released { ticket, record },
     };
     Ok(Some((event, after_ticket + record_length)))
+}
+
+/// Hands the events of a trace to `take` from left to right; the earliest refusal decides.
+pub fn each_event(
+    trace: &[u8],
+    mut take: impl FnMut(Event) -> Result<(), Refusal>,
+) -> Result<(), RefusalAt> {
+    let mut offset = 0;
+    let at = |offset| move |number| RefusalAt { number, offset };
+    while let Some((event, length)) = read_event(&trace[offset..]).map_err(at(offset))? {
+        take(event).map_err(at(offset))?;
+        offset += length;
+    }
+    Ok(())
 }
 
 /// A ticket is judged as a number first, then for being 0.

@@ -1,11 +1,15 @@
 //! The generator: request files and traces from a seed, each file by its own number.
 
+pub mod audit_files;
 pub mod damage;
 pub mod desk_files;
+pub mod mutation;
 pub mod order_files;
 pub mod rng;
 pub mod sweep;
+pub mod world;
 
+use crate::event::read_event;
 use rng::Rng;
 
 /// A file as its requests or events, so that damage can fall between them too.
@@ -35,6 +39,44 @@ pub fn order_file(seed: u64, index: u64) -> Vec<u8> {
         return damage::damaged(&mut rng, pieces);
     }
     pieces.concat()
+}
+
+/// Trace number `index` of a seed for the trace check: a desk's own, or one that something befell.
+pub fn audit_file(seed: u64, index: u64) -> Vec<u8> {
+    let mut rng = Rng::of_file(seed, index);
+    // Traces of many thousand events take long, and few of them say all.
+    if rng.below(400) == 0 {
+        return audit_files::very_long(&mut rng);
+    }
+    let floor = audit_files::run(&mut rng);
+    let mut bytes = floor.trace().to_vec();
+    match rng.below(4) {
+        0 => (),
+        1 => bytes = mutation::mutated(&mut rng, &floor).concat(),
+        2 => bytes.truncate(rng.place(bytes.len() + 1)),
+        _ => bytes = no_desks(&mut rng, events(&bytes)),
+    }
+    bytes
+}
+
+/// Bytes that no desk has a part in, or only a part.
+fn no_desks(rng: &mut Rng, events: Pieces) -> Vec<u8> {
+    match rng.below(10) {
+        0 => rng.some_bytes(64),
+        1 => order_files::pieces(rng).concat(),
+        _ => damage::damaged(rng, events),
+    }
+}
+
+/// A trace as its events, up to what does not read.
+pub fn events(trace: &[u8]) -> Pieces {
+    let mut pieces = Pieces::new();
+    let mut rest = trace;
+    while let Ok(Some((_, length))) = read_event(rest) {
+        pieces.push(rest[..length].to_vec());
+        rest = &rest[length..];
+    }
+    pieces
 }
 
 /// A request or event that has a spelling: kind, then its numbers, each at most 65,535.

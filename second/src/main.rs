@@ -1,12 +1,12 @@
-//! The command: the two programs on standard input, and the generator.
+//! The command: the three programs on standard input, and the generator.
 
-use second::{desk_text, gen, order_text};
+use second::{audit_text, desk_text, gen, order_text};
 use std::io::{Read, Write};
 use std::process::ExitCode;
 
-const USAGE: &str = "second desk|order < FILE
-second gen desk|order SEED N DIR
-second texts desk|order SEED N";
+const USAGE: &str = "second desk|order|audit < FILE
+second gen desk|order|audit SEED N DIR
+second texts desk|order|audit SEED N";
 
 fn main() -> ExitCode {
     let words: Vec<String> = std::env::args().skip(1).collect();
@@ -22,8 +22,7 @@ fn main() -> ExitCode {
 
 fn command(words: &[&str]) -> Result<(), String> {
     match words {
-        ["desk"] => print(&desk_text(&input()?)),
-        ["order"] => print(&order_text(&input()?)),
+        [program] => print(&(Program::named(program)?.text)(&input()?)),
         ["gen", program, seed, count, folder] => {
             write_files(&Program::named(program)?, number(seed)?, number(count)?, folder)
         }
@@ -34,7 +33,7 @@ fn command(words: &[&str]) -> Result<(), String> {
     }
 }
 
-/// One of the two programs: how its files are made and what it prints for one.
+/// One of the three programs: how its files are made and what it prints for one.
 struct Program {
     file: fn(u64, u64) -> Vec<u8>,
     text: fn(&[u8]) -> String,
@@ -45,6 +44,7 @@ impl Program {
         match name {
             "desk" => Ok(Program { file: gen::desk_file, text: desk_text }),
             "order" => Ok(Program { file: gen::order_file, text: order_text }),
+            "audit" => Ok(Program { file: gen::audit_file, text: audit_text }),
             _ => Err(USAGE.to_string()),
         }
     }

@@ -1,7 +1,7 @@
 //! The order: befores as a set of pairs, and the list of changes that they allow.
 
-use crate::event::{read_event, Event};
-use crate::Refusal;
+use crate::event::{each_event, Event};
+use crate::RefusalAt;
 use std::collections::{BTreeMap, BTreeSet};
 
 /// The longest trace that is ordered.
@@ -14,32 +14,19 @@ pub const TABLE_WORDS: usize = 2_048;
 /// Pairs (i, j): ticket i comes before ticket j.
 pub type Befores = BTreeSet<(u32, u32)>;
 
-/// A refusal and the first byte of the event that caused it, or 0.
-#[derive(Clone, Copy, Debug, PartialEq, Eq)]
-pub struct OrderRefusal {
-    pub number: Refusal,
-    pub offset: usize,
-}
-
 /// The touches of a trace from left to right, each a ticket and a record.
-pub fn touches(trace: &[u8]) -> Result<Vec<(u32, u32)>, OrderRefusal> {
+pub fn touches(trace: &[u8]) -> Result<Vec<(u32, u32)>, RefusalAt> {
     let mut found = Vec::new();
-    let mut offset = 0;
-    loop {
-        match read_event(&trace[offset..]) {
-            Err(number) => return Err(OrderRefusal { number, offset }),
-            Ok(None) => return Ok(found),
-            Ok(Some((event, _))) if event.ticket() > MOST_CHANGES => {
-                return Err(OrderRefusal { number: 27, offset });
-            }
-            Ok(Some((event, length))) => {
-                if let Event::Touched { ticket, record } = event {
-                    found.push((ticket, record));
-                }
-                offset += length;
-            }
+    each_event(trace, |event| {
+        if event.ticket() > MOST_CHANGES {
+            return Err(27);
         }
-    }
+        if let Event::Touched { ticket, record } = event {
+            found.push((ticket, record));
+        }
+        Ok(())
+    })?;
+    Ok(found)
 }
 
 /// Every pair with a touch by the first earlier than a touch by the second of the same record.
@@ -83,19 +70,19 @@ fn lowest_that_may_stand(unlisted: &BTreeSet<u32>, befores: &Befores) -> Option<
 }
 
 /// The order call: fills table and list and gives K, or a refusal.
-pub fn order(trace: &[u8], table: &mut [u32], places: &mut [u16]) -> Result<usize, OrderRefusal> {
+pub fn order(trace: &[u8], table: &mut [u32], places: &mut [u16]) -> Result<usize, RefusalAt> {
     if table.len() != TABLE_WORDS || places.len() != MOST_CHANGES as usize {
-        return Err(OrderRefusal { number: 25, offset: 0 });
+        return Err(RefusalAt { number: 25, offset: 0 });
     }
     if trace.len() > LONGEST_TRACE {
-        return Err(OrderRefusal { number: 26, offset: 0 });
+        return Err(RefusalAt { number: 26, offset: 0 });
     }
     let touches = touches(trace)?;
     let befores = befores(&touches);
     write_table(&befores, table);
     places.fill(0);
     let Some(tickets) = list(&touches, &befores) else {
-        return Err(OrderRefusal { number: 28, offset: 0 });
+        return Err(RefusalAt { number: 28, offset: 0 });
     };
     for (place, &ticket) in places.iter_mut().zip(&tickets) {
         *place = ticket as u16;

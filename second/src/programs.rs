@@ -1,12 +1,16 @@
-//! The two programs: what the desk program and the order program print.
+//! The three programs: what the desk program, the order program and the audit program print.
 
+use crate::audit::{audit, TABLE_RECORDS};
 use crate::desk::{clear, event_of, judge, Answer, DeskRecord, Tables};
 use crate::event::spell_event;
-use crate::order::{order, OrderRefusal, MOST_CHANGES, TABLE_WORDS};
+use crate::order::{order, MOST_CHANGES, TABLE_WORDS};
 use crate::request::{read_request, Request};
+use crate::RefusalAt;
 
 /// The longest request file.
 pub const LONGEST_FILE: usize = 16_384;
+/// The longest trace that the audit program reads.
+pub const LONGEST_AUDIT: usize = 4_194_304;
 /// The records of the desk program's tables.
 pub const RECORDS: usize = 256;
 
@@ -40,7 +44,7 @@ impl Work {
 pub struct Run {
     pub answers: Vec<Answer>,
     pub trace: Vec<u8>,
-    pub fault: Option<OrderRefusal>,
+    pub fault: Option<RefusalAt>,
 }
 
 /// Sends every request of a file to a cleared desk.
@@ -48,13 +52,13 @@ pub fn run(input: &[u8]) -> Run {
     let mut work = Work::cleared(RECORDS);
     let mut answers = Vec::new();
     if input.len() > LONGEST_FILE {
-        let fault = Some(OrderRefusal { number: 26, offset: 0 });
+        let fault = Some(RefusalAt { number: 26, offset: 0 });
         return Run { answers, trace: work.trace, fault };
     }
     let mut offset = 0;
     let fault = loop {
         match read_request(&input[offset..]) {
-            Err(number) => break Some(OrderRefusal { number, offset }),
+            Err(number) => break Some(RefusalAt { number, offset }),
             Ok(None) => break None,
             Ok(Some((request, length))) => {
                 answers.push(work.ask(request));
@@ -95,7 +99,20 @@ pub fn order_text(trace: &[u8]) -> String {
     }
 }
 
-fn refusal_line(refusal: OrderRefusal) -> String {
+/// What the audit program prints.
+pub fn audit_text(trace: &[u8]) -> String {
+    if trace.len() > LONGEST_AUDIT {
+        return refusal_line(RefusalAt { number: 26, offset: 0 });
+    }
+    let mut held = [0; TABLE_RECORDS];
+    let mut released = [0; TABLE_RECORDS];
+    match audit(trace, &mut held, &mut released) {
+        Err(refusal) => refusal_line(refusal),
+        Ok(()) => "accepted\n".to_string(),
+    }
+}
+
+fn refusal_line(refusal: RefusalAt) -> String {
     format!("refused {} at {}\n", refusal.number, refusal.offset)
 }
 

@@ -1,9 +1,13 @@
 //! The generator: the same files from a seed, and every answer and refusal reached.
 
+use second::audit::request_for;
+use second::desk::Answer;
+use second::event::{each_event, read_event};
 use second::gen::damage::spell;
-use second::gen::{desk_file, order_file};
-use second::{desk_text, order_text};
-use std::collections::BTreeSet;
+use second::gen::{audit_file, desk_file, order_file};
+use second::programs::Work;
+use second::{audit_text, desk_text, order_text};
+use std::collections::{BTreeMap, BTreeSet};
 
 /// Lines without their numbers, except those of waits and refusals.
 fn kinds(texts: impl Iterator<Item = String>) -> BTreeSet<String> {
@@ -31,6 +35,7 @@ fn a_seed_gives_the_same_files_and_another_gives_others() {
     for index in 0..50 {
         assert_eq!(desk_file(7, index), desk_file(7, index));
         assert_eq!(order_file(7, index), order_file(7, index));
+        assert_eq!(audit_file(7, index), audit_file(7, index));
     }
     assert!((0..50).any(|index| desk_file(7, index) != desk_file(8, index)));
     assert!((0..50).any(|index| order_file(7, index) != order_file(7, index + 1)));
@@ -82,11 +87,74 @@ fn traces_reach_every_line() {
 }
 
 #[test]
+fn traces_to_check_reach_every_line() {
+    let expected = set(&[
+        "accepted",
+        "refused 20 at",
+        "refused 21 at",
+        "refused 22 at",
+        "refused 23 at",
+        "refused 26 at",
+        "refused 40 at",
+    ]);
+    assert_eq!(kinds((0..2_000).map(|index| audit_text(&audit_file(1, index)))), expected);
+}
+
+/// For a trace refused 40: the kind of that event, and what the desk says when asked for it.
+fn denied(trace: &[u8]) -> Option<String> {
+    let text = audit_text(trace);
+    let offset: usize = text.strip_prefix("refused 40 at ")?.trim_end().parse().ok()?;
+    let (_, length) = read_event(&trace[offset..]).ok()??;
+    let mut work = Work::cleared(4_096);
+    let mut last = None;
+    each_event(&trace[..offset + length], |event| {
+        let answer = request_for(&work.desk, event).map(|request| work.ask(request));
+        last = Some(match answer {
+            None => format!("{} no seat", event.kind()),
+            // A ticket out of turn.
+            Some(Answer::Started(_)) => "1 another ticket".to_string(),
+            Some(answer) => format!("{} {answer:?}", event.kind()),
+        });
+        Ok(())
+    })
+    .ok()?;
+    last
+}
+
+#[test]
+fn traces_to_check_are_refused_in_every_way() {
+    let mut counts: BTreeMap<String, u32> = BTreeMap::new();
+    for reason in (0..4_000).filter_map(|index| denied(&audit_file(1, index))) {
+        *counts.entry(reason).or_default() += 1;
+    }
+    let expected = set(&[
+        "1 no seat",
+        "1 another ticket",
+        "2 no seat",
+        "2 Held",
+        "2 Wait(1)",
+        "2 Wait(2)",
+        "2 Refused(8)",
+        "3 no seat",
+        "3 Refused(7)",
+        "3 Refused(8)",
+        "4 no seat",
+        "4 Refused(7)",
+        "4 Refused(8)",
+        "5 no seat",
+    ]);
+    assert!(counts.values().all(|&count| count >= 5), "{counts:?}");
+    assert_eq!(counts.into_keys().collect::<BTreeSet<String>>(), expected);
+}
+
+#[test]
 fn files_reach_their_limits() {
     let desk: BTreeSet<usize> = (0..2_000).map(|index| desk_file(1, index).len()).collect();
     let order: BTreeSet<usize> = (0..2_000).map(|index| order_file(1, index).len()).collect();
     assert!([0, 16_384, 16_385].iter().all(|length| desk.contains(length)));
     assert!([0, 65_536, 65_537].iter().all(|length| order.contains(length)));
+    let audit: BTreeSet<usize> = (0..3_000).map(|index| audit_file(1, index).len()).collect();
+    assert!([0, 4_194_304, 4_194_305].iter().all(|length| audit.contains(length)));
 }
 
 #[test]

@@ -1,9 +1,9 @@
 //! The order call: printed orders, table bits, refusals 25 to 28 and what they leave behind.
 
-use second::order::{order, OrderRefusal};
-use second::order_text;
+use second::order::order;
+use second::{order_text, RefusalAt};
 
-type Outcome = Result<usize, OrderRefusal>;
+type Outcome = Result<usize, RefusalAt>;
 
 /// The order call on a table and list that were full of ones.
 fn call(trace: &[u8]) -> (Outcome, Vec<u32>, Vec<u16>) {
@@ -55,7 +55,7 @@ fn table_and_list_of_an_order() {
 #[test]
 fn a_ring_leaves_the_pairs_and_an_empty_list() {
     let (outcome, table, places) = call(&[3, 1, 5, 3, 2, 5, 3, 2, 6, 3, 1, 6]);
-    assert_eq!(outcome, Err(OrderRefusal { number: 28, offset: 0 }));
+    assert_eq!(outcome, Err(RefusalAt { number: 28, offset: 0 }));
     assert_eq!(bits(&table), [(1, 2), (2, 1)]);
     assert!(places.iter().all(|&place| place == 0));
 }
@@ -133,7 +133,7 @@ fn wrong_lengths_before_all_else() {
             let mut table = vec![5; words];
             let mut places = vec![5; count];
             let outcome = order(trace, &mut table, &mut places);
-            assert_eq!(outcome, Err(OrderRefusal { number: 25, offset: 0 }));
+            assert_eq!(outcome, Err(RefusalAt { number: 25, offset: 0 }));
             assert_eq!((table, places), (vec![5; words], vec![5; count]));
         }
     }

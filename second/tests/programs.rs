@@ -1,6 +1,6 @@
-//! The desk program: the viaduct, its limits, its faults with their offsets, its order.
+//! The desk program and the audit program: the viaduct, their limits, faults with their offsets.
 
-use second::{desk_text, desk_trace, order_text};
+use second::{audit_text, desk_text, desk_trace, order_text};
 
 fn lines(text: &str) -> Vec<&str> {
     assert!(text.ends_with('\n'));
@@ -46,6 +46,7 @@ fn the_viaducts_trace() {
     ];
     assert_eq!(desk_trace(&VIADUCT), expected);
     assert_eq!(order_text(&expected), "order 2\n1\n2\n");
+    assert_eq!(audit_text(&expected), "accepted\n");
 }
 
 #[test]
@@ -174,4 +175,39 @@ fn a_finished_seat_is_in_no_wake_of_the_next() {
         "order 0",
     ];
     assert_eq!(lines(&desk_text(&input)), expected);
+}
+
+#[test]
+fn the_audit_program_prints_one_line() {
+    assert_eq!(audit_text(&[]), "accepted\n");
+    assert_eq!(audit_text(&[1, 1, 2, 1, 5, 5, 1]), "accepted\n");
+    assert_eq!(audit_text(&[1, 1, 2, 1]), "refused 20 at 2\n");
+    assert_eq!(audit_text(&[1, 1, 2, 1, 0x80, 0]), "refused 21 at 2\n");
+    assert_eq!(audit_text(&[1, 1, 0]), "refused 22 at 2\n");
+    assert_eq!(audit_text(&[1, 1, 5, 0]), "refused 23 at 2\n");
+    assert_eq!(audit_text(&[1, 1, 3, 1, 5]), "refused 40 at 2\n");
+    // A trace that is ordered need not be one of a desk.
+    assert_eq!(order_text(&[3, 1, 5]), "order 1\n1\n");
+    assert_eq!(audit_text(&[3, 1, 5]), "refused 40 at 0\n");
+}
+
+#[test]
+fn the_audit_program_takes_4_194_304_bytes_and_not_one_more() {
+    // A start, grants of records 5 and 200, a touch of the second and many of the first.
+    let front = [1, 1, 2, 1, 5, 2, 1, 0xC8, 1, 3, 1, 0xC8, 1];
+    let mut trace = [&front[..], &[3, 1, 5].repeat(1_398_097)].concat();
+    assert_eq!(trace.len(), 4_194_304);
+    assert_eq!(audit_text(&trace), "accepted\n");
+    trace.push(6);
+    assert_eq!(audit_text(&trace), "refused 26 at 0\n");
+    assert_eq!(audit_text(&[6; 4_194_305]), "refused 26 at 0\n");
+    // 4,194,304 bytes again, of which the first two start ticket 2.
+    assert_eq!(audit_text(&trace[1..]), "refused 40 at 0\n");
+}
+
+#[test]
+fn the_audit_program_accepts_what_the_desk_program_writes() {
+    assert_eq!(audit_text(&desk_trace(&[1, 0, 5, 0].repeat(257))), "accepted\n");
+    let crowd: Vec<u8> = (0..32).rev().flat_map(|seat| [1, seat, 2, seat, seat]).collect();
+    assert_eq!(audit_text(&desk_trace(&crowd)), "accepted\n");
 }

@@ -43,6 +43,16 @@ mod exported {
             list: *mut u16,
             list_places: usize,
         ) -> u64;
+        pub fn saltlicker_audit(
+            trace: *const u8,
+            trace_bytes: usize,
+            held: *mut u32,
+            held_words: usize,
+            released: *mut u32,
+            released_words: usize,
+            at: *mut u64,
+            at_words: usize,
+        ) -> u64;
         pub fn saltlicker_desk_text(
             input: *const u8,
             input_bytes: usize,
@@ -50,6 +60,12 @@ mod exported {
             out_bytes: usize,
         ) -> usize;
         pub fn saltlicker_order_text(
+            trace: *const u8,
+            trace_bytes: usize,
+            out: *mut u8,
+            out_bytes: usize,
+        ) -> usize;
+        pub fn saltlicker_audit_text(
             trace: *const u8,
             trace_bytes: usize,
             out: *mut u8,
@@ -123,6 +139,22 @@ pub fn order(trace: &[u8], table: &mut [u32], list: &mut [u16]) -> u64 {
     }
 }
 
+/// Checks a trace and leaves the tables as after the last event allowed; a refusal puts its offset in `at`.
+pub fn audit(trace: &[u8], held: &mut [u32], released: &mut [u32], at: &mut [u64]) -> u64 {
+    unsafe {
+        exported::saltlicker_audit(
+            trace.as_ptr(),
+            trace.len(),
+            held.as_mut_ptr(),
+            held.len(),
+            released.as_mut_ptr(),
+            released.len(),
+            at.as_mut_ptr(),
+            at.len(),
+        )
+    }
+}
+
 /// Puts what the desk program prints of a request file at the front of `out`, and gives its length.
 pub fn desk_text(input: &[u8], out: &mut [u8]) -> usize {
     unsafe {
@@ -134,5 +166,12 @@ pub fn desk_text(input: &[u8], out: &mut [u8]) -> usize {
 pub fn order_text(trace: &[u8], out: &mut [u8]) -> usize {
     unsafe {
         exported::saltlicker_order_text(trace.as_ptr(), trace.len(), out.as_mut_ptr(), out.len())
+    }
+}
+
+/// Puts what the audit program prints of a trace at the front of `out`, and gives its length.
+pub fn audit_text(trace: &[u8], out: &mut [u8]) -> usize {
+    unsafe {
+        exported::saltlicker_audit_text(trace.as_ptr(), trace.len(), out.as_mut_ptr(), out.len())
     }
 }

@@ -10,6 +10,9 @@ use std::fmt::Debug;
 /// Where a tally has what calls answered.
 pub const PLACE: &str = "calls";
 
+/// The trace check: a trace, the held and released tables, and the place of an offset.
+pub type Audit = fn(&[u8], &mut [u32], &mut [u32], &mut [u64]) -> u64;
+
 /// One side's calls.
 #[derive(Clone, Copy)]
 pub struct Calls {
@@ -18,8 +21,10 @@ pub struct Calls {
     pub read: fn(&[u8], &mut [u32]) -> u64,
     pub write: fn(&mut [u8], u32, u32, u32) -> u64,
     pub order: fn(&[u8], &mut [u32], &mut [u16]) -> u64,
+    pub audit: Audit,
     pub desk_text: fn(&[u8], &mut [u8]) -> usize,
     pub order_text: fn(&[u8], &mut [u8]) -> usize,
+    pub audit_text: fn(&[u8], &mut [u8]) -> usize,
 }
 
 pub const PROVED: Calls = Calls {
@@ -28,8 +33,10 @@ pub const PROVED: Calls = Calls {
     read: raw::read,
     write: raw::write,
     order: raw::order,
+    audit: raw::audit,
     desk_text: raw::desk_text,
     order_text: raw::order_text,
+    audit_text: raw::audit_text,
 };
 
 /// A call with what it only reads, and the lengths of what it is lent anew.
@@ -40,8 +47,10 @@ pub enum Call {
     Read { rest: Vec<u8>, words: usize },
     Write { room: usize, kind: u32, ticket: u32, record: u32 },
     Order { trace: Vec<u8>, words: usize, places: usize },
+    Audit { trace: Vec<u8>, held: usize, released: usize, at: usize },
     DeskText { file: Vec<u8>, room: usize },
     OrderText { trace: Vec<u8>, room: usize },
+    AuditText { trace: Vec<u8>, room: usize },
 }
 
 /// All that calls are lent: the first three stay from call to call.
@@ -55,6 +64,17 @@ pub struct Lent {
     pub bytes: Vec<u8>,
     pub table: Vec<u32>,
     pub list: Vec<u16>,
+    pub audit_held: Vec<u32>,
+    pub audit_released: Vec<u32>,
+    pub at: Vec<u64>,
+}
+
+impl Lent {
+    /// The length of a text that is put into a room of so many bytes.
+    fn text(&mut self, put: fn(&[u8], &mut [u8]) -> usize, file: &[u8], room: usize) -> u64 {
+        self.bytes = vec![u8::MAX; room];
+        put(file, &mut self.bytes) as u64
+    }
 }
 
 impl Call {
@@ -80,20 +100,22 @@ impl Call {
                 lent.list = vec![u16::MAX; *places];
                 (calls.order)(trace, &mut lent.table, &mut lent.list)
             }
-            Call::DeskText { file, room } => {
-                lent.bytes = vec![u8::MAX; *room];
-                (calls.desk_text)(file, &mut lent.bytes) as u64
+            Call::Audit { trace, held, released, at } => {
+                lent.audit_held = vec![u32::MAX; *held];
+                lent.audit_released = vec![u32::MAX; *released];
+                lent.at = vec![u64::MAX; *at];
+                let Lent { audit_held, audit_released, at, .. } = lent;
+                (calls.audit)(trace, audit_held, audit_released, at)
             }
-            Call::OrderText { trace, room } => {
-                lent.bytes = vec![u8::MAX; *room];
-                (calls.order_text)(trace, &mut lent.bytes) as u64
-            }
+            Call::DeskText { file, room } => lent.text(calls.desk_text, file, *room),
+            Call::OrderText { trace, room } => lent.text(calls.order_text, trace, *room),
+            Call::AuditText { trace, room } => lent.text(calls.audit_text, trace, *room),
         }
     }
 
     /// Counts what the call answered.
     fn count(&self, answer: u64, lent: &Lent, tally: &mut Tally) {
-        if matches!(self, Call::DeskText { .. } | Call::OrderText { .. }) {
+        if matches!(self, Call::DeskText { .. } | Call::OrderText { .. } | Call::AuditText { .. }) {
             return tally.add(PLACE, "text", 0, 1);
         }
         let (word, number) = model::word_and_number(answer);
@@ -135,7 +157,10 @@ fn first_difference(second: (u64, &Lent), proved: (u64, &Lent)) -> String {
         .or(place("event", &one.event, &other.event))
         .or(place("bytes", &one.bytes, &other.bytes))
         .or(place("table", &one.table, &other.table))
-        .or(place("list", &one.list, &other.list));
+        .or(place("list", &one.list, &other.list))
+        .or(place("audit held", &one.audit_held, &other.audit_held))
+        .or(place("audit released", &one.audit_released, &other.audit_released))
+        .or(place("at", &one.at, &other.at));
     found.expect("something differs")
 }
 

@@ -4,7 +4,7 @@ use compare::calls;
 use compare::run::{run, Difference, Proved};
 use compare::shrink::shrink;
 use compare::tally::Tally;
-use compare::texts::{first_differing_lines, Program, DESK, ORDER, ROOM};
+use compare::texts::{first_differing_lines, Program, AUDIT, DESK, ORDER, ROOM};
 use std::process::ExitCode;
 
 /// Where a difference is kept: as `.bin`, `.second.txt` and `.proved.txt`, or as `.calls.txt`.
@@ -16,7 +16,7 @@ fn main() -> ExitCode {
         eprintln!("compare N SEED");
         return ExitCode::FAILURE;
     };
-    let proved = Proved { programs: [DESK, ORDER], calls: calls::PROVED };
+    let proved = Proved { programs: [DESK, ORDER, AUDIT], calls: calls::PROVED };
     let (tally, differences) = run(&proved, seed, count);
     let Some(smallest) = differences.into_iter().min_by_key(Difference::length) else {
         report(&tally, seed, count);
@@ -30,18 +30,20 @@ fn main() -> ExitCode {
 
 /// What was met, and that nothing differed.
 fn report(tally: &Tally, seed: u64, count: u64) {
-    let places = [DESK.files, ORDER.files, calls::PLACE];
+    let places = [DESK.files, ORDER.files, AUDIT.files, calls::PLACE];
     for place in places {
         println!("{}", tally.line(place));
     }
-    println!("never met in files: {}", tally.never_met(&places[..2]));
+    println!("never met in files: {}", tally.never_met(&places[..3]));
     println!("never met at all: {}", tally.never_met(&places));
+    let bytes: u64 = places.iter().map(|place| tally.amount(place, "bytes")).sum();
     println!(
-        "{count} request files, {count} traces and {count} scripts of calls from seed {seed}: \
-         no difference ({} requests, {} events, {} bytes)",
+        "{count} request files, {count} traces, {count} traces to check and {count} scripts \
+         of calls from seed {seed}: no difference \
+         ({} requests, {} events, {} events allowed, {bytes} bytes)",
         tally.amount(DESK.files, DESK.parts),
         tally.amount(ORDER.files, ORDER.parts),
-        tally.amount(DESK.files, "bytes") + tally.amount(ORDER.files, "bytes"),
+        tally.amount(AUDIT.files, AUDIT.parts),
     );
 }
 

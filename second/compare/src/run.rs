@@ -7,7 +7,7 @@ use std::sync::atomic::{AtomicU64, Ordering::Relaxed};
 
 /// What is held against the second program.
 pub struct Proved {
-    pub programs: [Program; 2],
+    pub programs: [Program; 3],
     pub calls: Calls,
 }
 
@@ -80,7 +80,7 @@ fn hold(
         };
         tally.add_text(program.files, &text);
         tally.add(program.files, "bytes", 0, file.len() as u64);
-        tally.add(program.files, program.parts, 0, (program.count)(&file));
+        tally.add(program.files, program.parts, 0, (program.count)(&file, &text));
     }
     let script = calls::scripts::script(seed, index);
     calls::hold(script, &proved.calls, tally)

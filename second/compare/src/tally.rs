@@ -7,11 +7,13 @@ use std::collections::BTreeMap;
 pub struct Tally(BTreeMap<(&'static str, &'static str, u32), u64>);
 
 /// The first words of the lines of a text; a line of one ticket has none.
-const WORDS: [&str; 9] =
-    ["started", "granted", "held", "touched", "released", "finished", "wait", "refused", "order"];
+const WORDS: [&str; 10] = [
+    "started", "granted", "held", "touched", "released", "finished", "wait", "refused", "order",
+    "accepted",
+];
 
 /// Every refusal number of the paper.
-const REFUSALS: [u32; 17] = [1, 2, 3, 4, 5, 6, 7, 8, 20, 21, 22, 23, 24, 25, 26, 27, 28];
+const REFUSALS: [u32; 18] = [1, 2, 3, 4, 5, 6, 7, 8, 20, 21, 22, 23, 24, 25, 26, 27, 28, 40];
 
 impl Tally {
     pub fn add(&mut self, place: &'static str, word: &'static str, number: u32, amount: u64) {

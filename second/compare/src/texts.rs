@@ -1,17 +1,17 @@
-//! The two texts of a file: the second program's and the proved library's.
+//! The texts of a file: the second program's and the proved library's.
 
 use second::event::read_event;
 use second::gen;
 use second::order::{LONGEST_TRACE, MOST_CHANGES};
-use second::programs::LONGEST_FILE;
+use second::programs::{LONGEST_AUDIT, LONGEST_FILE};
 use second::request::read_request;
 
-/// One of the two programs: how its files are made and how each side prints one.
+/// One of the three programs: how its files are made and how each side prints one.
 #[derive(Clone, Copy)]
 pub struct Program {
     pub files: &'static str,
     pub parts: &'static str,
-    pub count: fn(&[u8]) -> u64,
+    pub count: fn(&[u8], &str) -> u64,
     pub make: fn(u64, u64) -> Vec<u8>,
     pub second: fn(&[u8]) -> String,
     pub proved: fn(&[u8], &mut [u8]) -> usize,
@@ -20,7 +20,7 @@ pub struct Program {
 pub const DESK: Program = Program {
     files: "request files",
     parts: "requests",
-    count: |file| count(file, LONGEST_FILE, |rest| Some(read_request(rest).ok()??.1)),
+    count: |file, _| count(file, LONGEST_FILE, |rest| Some(read_request(rest).ok()??.1)),
     make: gen::desk_file,
     second: second::desk_text,
     proved: saltlicker::raw::desk_text,
@@ -29,10 +29,19 @@ pub const DESK: Program = Program {
 pub const ORDER: Program = Program {
     files: "traces",
     parts: "events",
-    count: |file| count(file, LONGEST_TRACE, ordered_event),
+    count: |file, _| count(file, LONGEST_TRACE, ordered_event),
     make: gen::order_file,
     second: second::order_text,
     proved: saltlicker::raw::order_text,
+};
+
+pub const AUDIT: Program = Program {
+    files: "traces to check",
+    parts: "events",
+    count: |file, text| count(before_refusal(file, text), LONGEST_AUDIT, event_length),
+    make: gen::audit_file,
+    second: second::audit_text,
+    proved: saltlicker::raw::audit_text,
 };
 
 /// How many requests or events of a file are read, by what gives the length of the next one.
@@ -45,6 +54,17 @@ fn count(file: &[u8], longest: usize, next: impl Fn(&[u8]) -> Option<usize>) -> 
         found += 1;
     }
     found
+}
+
+/// A file up to the offset that its text is refused at.
+fn before_refusal<'a>(file: &'a [u8], text: &str) -> &'a [u8] {
+    let offset = text.trim_end().rsplit_once(" at ").map(|(_, offset)| offset.parse().ok());
+    &file[..offset.flatten().unwrap_or(file.len())]
+}
+
+/// The length of the next event, if it reads.
+fn event_length(rest: &[u8]) -> Option<usize> {
+    Some(read_event(rest).ok()??.1)
 }
 
 /// The length of the next event, if it is one that the order takes.

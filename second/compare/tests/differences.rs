@@ -1,38 +1,19 @@
 //! A wrong side is found, and a file it prints wrongly is made small.
 
+mod wrong;
+
 use compare::calls::model::SECOND;
-use compare::calls::{hold, scripts::script, Calls, PLACE};
+use compare::calls::{Calls, PLACE};
 use compare::run::{run, Difference, Proved};
-use compare::shrink::shrink;
-use compare::tally::Tally;
-use compare::texts::{Program, DESK, ORDER, ROOM};
+use compare::texts::{Program, AUDIT, DESK, ORDER};
+use wrong::{found, put, smallest};
 
 /// The second program on both sides.
 fn right() -> Proved {
     let desk = Program { proved: SECOND.desk_text, ..DESK };
     let order = Program { proved: SECOND.order_text, ..ORDER };
-    Proved { programs: [desk, order], calls: SECOND }
-}
-
-/// The smallest file found on which a side of its own differs from the second program.
-fn smallest(program: Program) -> Vec<u8> {
-    let mut room = vec![0; ROOM];
-    let mut differs = |file: &[u8]| program.agreed(file, &mut room).is_none();
-    let files = (0..500).map(|index| (program.make)(3, index));
-    let file = files.into_iter().find(|file| differs(file)).expect("a wrong side is found");
-    shrink(file, differs)
-}
-
-/// Whether some script finds the calls different from the second program's.
-fn found(calls: Calls) -> bool {
-    (0..500).any(|index| hold(script(3, index), &calls, &mut Tally::default()).is_err())
-}
-
-/// Puts the second program's text with some words in place of others.
-fn put(text: String, from: &str, to: &str, room: &mut [u8]) -> usize {
-    let text = text.replace(from, to);
-    room[..text.len()].copy_from_slice(text.as_bytes());
-    text.len()
+    let audit = Program { proved: SECOND.audit_text, ..AUDIT };
+    Proved { programs: [desk, order, audit], calls: SECOND }
 }
 
 #[test]
@@ -40,9 +21,9 @@ fn the_same_on_both_sides_is_no_difference() {
     let (tally, differences) = run(&right(), 3, 300);
     assert!(differences.is_empty());
     // No file can carry tables, a record, a room, a table of befores or 65,535 changes.
-    let files = [DESK.files, ORDER.files];
+    let files = [DESK.files, ORDER.files, AUDIT.files];
     assert_eq!(tally.never_met(&files), "refused 1, refused 6, refused 24, refused 25");
-    assert_eq!(tally.never_met(&[DESK.files, ORDER.files, PLACE]), "none");
+    assert_eq!(tally.never_met(&[DESK.files, ORDER.files, AUDIT.files, PLACE]), "none");
 }
 
 #[test]
@@ -171,5 +152,10 @@ fn texts_that_give_more_than_they_put() {
         second::order_text(trace).len()
     };
     assert!(found(Calls { desk_text, ..SECOND }));
+    let audit_text = |trace: &[u8], room: &mut [u8]| {
+        (SECOND.audit_text)(trace, room);
+        second::audit_text(trace).len()
+    };
     assert!(found(Calls { order_text, ..SECOND }));
+    assert!(found(Calls { audit_text, ..SECOND }));
 }

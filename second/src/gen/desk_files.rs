@@ -2,13 +2,13 @@
 
 use super::rng::Rng;
 use super::sweep::{one_sweep, Floor, Habits};
+use super::world::World;
 use super::{pad, piece, Pieces};
-use crate::desk::Answer;
 use crate::programs::{LONGEST_FILE, RECORDS};
 use crate::request::Request;
 
 /// Sweeps of a few records.
-const HABITS: Habits =
+pub const HABITS: Habits =
     Habits { editors: (1, 5), road: (2, 12), beside: 4, finish: 8, work: 60, leave: 70 };
 
 /// The requests of one file of some sort.
@@ -45,31 +45,11 @@ fn long_sweeps(rng: &mut Rng) -> Pieces {
 /// A small world: few seats, few records, many requests.
 fn contended(rng: &mut Rng) -> Pieces {
     let mut floor = Floor::cleared(RECORDS);
-    let (seats, records) = (rng.between(2, 5), rng.between(1, 5));
+    let world = World::from_zero(rng.between(2, 5), rng.between(1, 5), 10);
     for _ in 0..rng.between(5, 80) {
-        any_request(rng, &mut floor, seats, records, 10);
+        world.any_request(rng, &mut floor);
     }
     floor.pieces()
-}
-
-/// A request of some seat; free seats mostly begin, live ones finish so many times in a hundred.
-fn any_request(rng: &mut Rng, floor: &mut Floor, seats: u32, records: u32, finish: u32) -> Answer {
-    let (seat, record) = (rng.below(seats), rng.below(records));
-    if floor.live(seat) == rng.chance(2) {
-        return floor.ask(Request::Begin { seat });
-    }
-    if rng.chance(finish) {
-        return floor.ask(Request::Finish { seat });
-    }
-    if rng.chance(45) {
-        return floor.ask(Request::Lock { seat, record });
-    }
-    let held = if rng.chance(85) { floor.held_by(rng, seat) } else { None };
-    let record = held.unwrap_or(record);
-    if rng.chance(55) {
-        return floor.ask(Request::Touch { seat, record });
-    }
-    floor.ask(Request::Release { seat, record })
 }
 
 /// A file with every request in its limits up to, at or just over 16,384 bytes.
@@ -78,8 +58,9 @@ fn long(rng: &mut Rng) -> Pieces {
     let (seats, records) = (rng.between(3, 32), rng.between(2, 100));
     // A slow world begins few changes, so its order is more than a refusal 27.
     let finish = rng.pick(&[3, 3, 3, 12]);
+    let world = World::from_zero(seats, records, finish);
     while floor.used() < LONGEST_FILE - 6 {
-        any_request(rng, &mut floor, seats, records, finish);
+        world.any_request(rng, &mut floor);
     }
     let mut pieces = floor.pieces();
     pad(&mut pieces, LONGEST_FILE);
@@ -91,18 +72,22 @@ fn long(rng: &mut Rng) -> Pieces {
     pieces
 }
 
-/// About 256 changes: each begins, has a record, and finishes.
+/// About 256 changes one after another.
 fn many_changes(rng: &mut Rng) -> Pieces {
     let mut floor = Floor::cleared(RECORDS);
-    let changes = rng.pick(&[255, 256, 257, 258, 300]);
-    for _ in 0..changes {
-        let (seat, record) = (rng.below(32), rng.below(4));
-        floor.ask(Request::Begin { seat });
-        floor.ask(Request::Lock { seat, record });
-        floor.ask(Request::Touch { seat, record });
-        floor.ask(Request::Finish { seat });
+    for _ in 0..rng.pick(&[255, 256, 257, 258, 300]) {
+        one_change(rng, &mut floor);
     }
     floor.pieces()
+}
+
+/// A change that begins, has a record, and finishes.
+pub fn one_change(rng: &mut Rng, floor: &mut Floor) {
+    let (seat, record) = (rng.below(32), rng.below(4));
+    floor.ask(Request::Begin { seat });
+    floor.ask(Request::Lock { seat, record });
+    floor.ask(Request::Touch { seat, record });
+    floor.ask(Request::Finish { seat });
 }
 
 /// Good spellings of seats and records at and past their limits.

@@ -1,9 +1,8 @@
 //! Traces: of a desk, with and without rings, long ones, tickets and records at their limits.
 
 use super::rng::Rng;
-use super::{desk_files, pad, piece, Pieces};
+use super::{desk_files, events, pad, piece, Pieces};
 use crate::desk_trace;
-use crate::event::read_event;
 use crate::order::LONGEST_TRACE;
 
 /// The events of one trace of some sort.
@@ -21,14 +20,7 @@ pub fn pieces(rng: &mut Rng) -> Pieces {
 
 /// The trace of a request file.
 fn of_desk(rng: &mut Rng) -> Pieces {
-    let trace = desk_trace(&desk_files::pieces(rng).concat());
-    let mut pieces = Pieces::new();
-    let mut at = 0;
-    while let Ok(Some((_, length))) = read_event(&trace[at..]) {
-        pieces.push(trace[at..at + length].to_vec());
-        at += length;
-    }
-    pieces
+    events(&desk_trace(&desk_files::pieces(rng).concat()))
 }
 
 /// Few tickets and few records in any sequence: rings are common.

@@ -57,7 +57,13 @@ impl Floor {
         self.used
     }
 
-    fn records(&self) -> u32 {
+    /// The trace of what the desk allowed of them.
+    pub fn trace(&self) -> &[u8] {
+        &self.work.trace
+    }
+
+    /// The records of the tables.
+    pub fn records(&self) -> u32 {
         self.work.tables.held.len() as u32
     }
 

@@ -5,7 +5,8 @@ use second::desk::{self, Answer, DeskRecord, Tables, SEATS};
 use second::event::{read_event, write_event, Event};
 use second::request::Request;
 
-pub const SECOND: Calls = Calls { clear, judge, read, write, order, desk_text, order_text };
+pub const SECOND: Calls =
+    Calls { clear, judge, read, write, order, audit, desk_text, order_text, audit_text };
 
 const DESK_WORDS: usize = 67;
 const UNKNOWN_KIND: u64 = 22 << 32;
@@ -34,6 +35,7 @@ pub fn word_and_number(answer: u64) -> (&'static str, u32) {
         206 => ("end", 0),
         207 => ("written", 0),
         208 => ("order", 0),
+        301 => ("accepted", 0),
         _ => ("unknown", 0),
     }
 }
@@ -164,12 +166,29 @@ fn order(trace: &[u8], table: &mut [u32], list: &mut [u16]) -> u64 {
     }
 }
 
+fn audit(trace: &[u8], held: &mut [u32], released: &mut [u32], at: &mut [u64]) -> u64 {
+    let [at] = at else {
+        return WRONG_LENGTH;
+    };
+    match second::audit::audit(trace, held, released) {
+        Ok(()) => numbered(301, 0),
+        Err(refusal) => {
+            *at = refusal.offset as u64;
+            numbered(refusal.number, 0)
+        }
+    }
+}
+
 fn desk_text(file: &[u8], room: &mut [u8]) -> usize {
     put(&second::desk_text(file), room)
 }
 
 fn order_text(trace: &[u8], room: &mut [u8]) -> usize {
     put(&second::order_text(trace), room)
+}
+
+fn audit_text(trace: &[u8], room: &mut [u8]) -> usize {
+    put(&second::audit_text(trace), room)
 }
 
 /// Puts as much of a text as there is room for, and gives how much that is.

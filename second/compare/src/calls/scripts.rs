@@ -3,7 +3,8 @@
 use super::{Call, Lent};
 use second::gen::damage::spell;
 use second::gen::rng::Rng;
-use second::gen::{desk_file, order_file};
+use second::gen::{audit_file, desk_file, order_file};
+use second::programs::LONGEST_AUDIT;
 
 /// What is lent at first, and the calls one after the other.
 pub struct Script {
@@ -55,6 +56,7 @@ pub fn script(seed: u64, index: u64) -> Script {
         calls.push(write(&mut rng));
     }
     calls.extend(of_files(&mut rng, desk_file(seed, index), order_file(seed, index)));
+    calls.extend(of_audit(&mut rng, audit_file(seed, index)));
     Script { lent, calls }
 }
 
@@ -163,6 +165,16 @@ fn of_files(rng: &mut Rng, file: Vec<u8>, trace: Vec<u8>) -> [Call; 3] {
         Call::DeskText { file, room: rng.place(400) },
         Call::OrderText { trace: trace.clone(), room: rng.place(40) },
         Call::Order { trace, words: length(rng, 2_048), places: length(rng, 256) },
+    ]
+}
+
+/// The check of a trace, and its text into a room that it may not fit.
+fn of_audit(rng: &mut Rng, trace: Vec<u8>) -> [Call; 2] {
+    let trace = short(rng, trace, LONGEST_AUDIT);
+    let (held, released) = (length(rng, 4_096), length(rng, 4_096));
+    [
+        Call::AuditText { trace: trace.clone(), room: rng.place(20) },
+        Call::Audit { trace, held, released, at: length(rng, 1) },
     ]
 }
 
