@@ -5,7 +5,7 @@ use mathlib.Core.Bool.{Bool, true, false, not}
 use mathlib.Core.Logic.{_≢_, _↔_, ⊎-elim}
 use mathlib.Core.List.{List, [], _∷_, _++_}
 use native.Mathlib.Omega.{arith}
-use borrow.Author.Tests.{eq-eqb, lt-leb, le-leb}
+use borrow.Author.Tests.{eq-eqb, eqb-true, lt-leb, le-leb, not-true, not-false}
 use lib.Dec.{leb, eqb}
 use lib.ListN.{length, getD}
 use Rattle.words.specs.Tests.{pick, either, clash, not-both, and-iff, not-iff, which}
@@ -25,14 +25,14 @@ use Rattle.desk.specs.declared.Request.{Request}
 use Rattle.desk.specs.declared.Request.the-variants.{Begin, Lock, Touch, Release, Finish}
 use Rattle.desk.specs.Limits.{seats}
 use Rattle.desk.specs.Answers.{Said, started, wait, refused, granted, held, touched, released, finished}
-use Rattle.desk.specs.Step.{State, Outcome, outcome, freeSeat, seatAt, seatOf, fitting, beginStep, ruled, about, holdRule, touchStep, releaseStep, finishStep, step}
+use Rattle.desk.specs.Step.{State, Outcome, outcome, freeSeat, seatAt, seatOf, fitting, beginStep, ruled, about, holdRule, touchStep, releaseStep, finishStep, kind, step}
 use Rattle.audit.specs.Audit.{sits, suits, lowest, requestFor, asked, answered, kindOf, kindCalled, calls, allows}
 use Rattle.demands.specs.Run.{called, recordOf, Moment, next}
 use Rattle.demands.specs.Views.{view}
 use Rattle.demands.specs.Keeps.{Good, keeps}
 use Rattle.demands.specs.DemandTwo.{Sits, step-judged, live-small}
 use Rattle.demands.specs.AuditLaws.{lowest-passes, lowest-first, asked-calls, suitor}
-use Rattle.demands.specs.Tally.{begunIn, endedIn, liveIn, liveSeats, live-most, one-live, Tallied, counts}
+use Rattle.demands.specs.Tally.{begunIn, endedIn, liveIn, liveSeats, live-most, one-live, liveOne, Tallied, counts}
 
 -- after the history h the desk could write event e:
 pub record Writable (h : History) (e : Event) : Type 0 where
@@ -85,3 +85,80 @@ written-writable {m} {e} G T q c = record {
 
     tally : (t : ℕ) → Starts t e → liveSeats (step seats (m .state) q .left .desk .seats) + endedIn (m .history) ≡ suc (begunIn (m .history))
     tally t s = subst (λ (d : Event). liveSeats (step seats (m .state) q .left .desk .seats) + endedIn (d ∷ m .history) ≡ begunIn (d ∷ m .history)) s (subst Tallied is (counts G T q .tally) .live)
+
+-- ---- what is writable is allowed, and what is allowed is writable
+
+-- not all seats are live, so one is free
+free-seat : (l : List Seat) → liveSeats l < length l → lowest (λ v. not (v .live)) l < length l
+unfolding lowest liveSeats liveOne
+free-seat [] h = absurd (omega arith)
+free-seat (v ∷ l) h =
+    either (λ n. n < suc (length l)) (not (v .live)) (λ e. omega arith) (λ e.
+    let k = one-live v (not-false _ e) in let j = free-seat l (omega arith) in omega arith)
+
+module _ {m : Moment} (G : Good seats m) (T : Tallied m) (full : length (m .state .held) ≡ records) where
+  -- the lowest seat of a live change has it
+  sitting : (t : ℕ) → Live (m .history) t → Sits (m .state) (lowest (sits t) (m .state .desk .seats)) t
+  sitting t live =
+      let (s, p) = G .sound .reads .seats .seated t live in
+      let lt = live-small (m .state) s (p .0) in
+      let k = lowest-first (sits t) (m .state .desk .seats) s lt (and-iff _ _ .1 (p .0, eq-eqb _ _ (p .1))) in
+      let b = and-iff (seatAt (m .state .desk) (lowest (sits t) (m .state .desk .seats)) .live) _ .0 (lowest-passes (sits t) (m .state .desk .seats) (omega arith)) in
+      record { live = b .0; ticket = eqb-true _ _ (b .1) }
+
+  -- a request by a seat comes to its kind
+  by-kind : (q : Request) → seatOf q < seats → step seats (m .state) q ≡ kind (m .state) q
+  unfolding step pick
+  by-kind q small = rw (G .fits, lt-leb seats (seatOf q) small)
+
+  module _ (s t : ℕ) (p : Sits (m .state) s t) where
+    small : s < seats
+    small = rw (sym (G .seats)) (live-small (m .state) s (p .live))
+
+    module _ (r : ℕ) (inside : r < records) (h : Holds (m .history) t r) where
+      held-bit : has (getD (m .state .held) r 0) s ≡ true
+      held-bit = G .sound .reads .held r s .1 (t, (p .live, p .ticket), h .had)
+
+      unreleased-bit : has (getD (m .state .released) r 0) s ≡ false
+      unreleased-bit = ⊎-elim (λ y. absurd (h .unreleased (its (G .sound .reads) (λ z. Gave (m .history) z r) (p .live, p .ticket) (G .sound .reads .released r s .0 y)))) (λ y. y) (which _)
+
+      -- a change that holds a record may touch it, and release it
+      touch-says : step seats (m .state) (Touch s r) .says ≡ touched
+      unfolding touchStep about holdRule ruled pick
+      touch-says = rw (by-kind (Touch s r) small, lt-leb (length (m .state .held)) r (rw full inside), p .live, held-bit, unreleased-bit) refl
+
+      release-says : step seats (m .state) (Release s r) .says ≡ released
+      unfolding releaseStep about holdRule ruled pick
+      release-says = rw (by-kind (Release s r) small, lt-leb (length (m .state .held)) r (rw full inside), p .live, held-bit, unreleased-bit) refl
+
+    -- a live change may finish
+    finish-says : step seats (m .state) (Finish s) .says ≡ finished
+    unfolding finishStep pick
+    finish-says = rw (by-kind (Finish s) small, p .live) refl
+
+  -- an event is allowed
+  writable-allowed : (e : Event) → Writable (m .history) e → allows (m .state) e ≡ true
+  unfolding beginStep pick
+  writable-allowed (Started t) w =
+      let next = w .ticket t refl in
+      let room = w .room t refl in
+      let range = fair-ticket t .0 (w .fair) in
+      let all = G .seats in
+      let s : ℕ = lowest (λ v. not (v .live)) (m .state .desk .seats) in
+      let small : s < length (m .state .desk .seats) = free-seat (m .state .desk .seats) (omega (arith, T .live)) in
+      let free : seatAt (m .state .desk) s .live ≡ false = not-true _ (lowest-passes (λ v. not (v .live)) (m .state .desk .seats) small) in
+      let says : step seats (m .state) (Begin s) .says ≡ started (m .state .desk .begun + 1) = rw (by-kind (Begin s) (omega arith), free, lt-leb limit (m .state .desk .begun) (omega (arith, T .begun))) refl in
+      ap (calls (Started t)) says ∙ rw (eq-eqb (m .state .desk .begun + 1) t (omega (arith, T .begun))) refl
+  writable-allowed (Granted t r) w =
+      let a = w .lawful .allowed in
+      let inside : r < length (m .state .held) = rw full (fair-pair t r .0 (w .fair) .1) in
+      ap (calls (Granted t r)) (step-judged G (lowest (sits t) (m .state .desk .seats)) t r (sitting t (a .live)) inside (a .new) (a .unreleased) .granted-if .1 (w .lawful .one, w .lawful .two))
+  writable-allowed (Touched t r) w =
+      ap (calls (Touched t r)) (touch-says _ t (sitting t (w .lawful .allowed .live)) r (fair-pair t r .0 (w .fair) .1) (w .lawful .allowed))
+  writable-allowed (Released t r) w =
+      ap (calls (Released t r)) (release-says _ t (sitting t (w .lawful .allowed .live)) r (fair-pair t r .0 (w .fair) .1) (w .lawful .allowed))
+  writable-allowed (Finished t) w = ap (calls (Finished t)) (finish-says _ t (sitting t (w .lawful .allowed)))
+
+  -- the trace check allows an event exactly if the desk could write it then
+  pub allowed-exactly : (e : Event) → (allows (m .state) e ≡ true) ↔ Writable (m .history) e
+  allowed-exactly e = (λ c. written-writable G T (asked (m .state) e) (asked-calls (m .state) (G .seats) e c), writable-allowed e)
