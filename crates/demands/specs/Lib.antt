@@ -14,3 +14,4 @@ pub mod Cases
 pub mod AuditLaws
 pub mod Tally
 pub mod Writable
+pub mod Scratch

@@ -2,8 +2,8 @@
 use Prim.Native.Nat.{ℕ, suc, _+_, _≤_, _<_}
 use mathlib.Core.Path.{_≡_, refl, sym, ap, subst, _∙_}
 use mathlib.Core.Bool.{Bool, true, false, not}
-use mathlib.Core.Logic.{_≢_, _↔_, ⊎-elim}
-use mathlib.Core.List.{List, [], _∷_, _++_}
+use mathlib.Core.Logic.{_≢_, _↔_, _⊎_, inl, inr, ⊎-elim}
+use mathlib.Core.List.{List, [], _∷_, _++_, reverseAux}
 use native.Mathlib.Omega.{arith}
 use borrow.Author.Tests.{eq-eqb, eqb-true, lt-leb, le-leb, not-true, not-false}
 use lib.Dec.{leb, eqb}
@@ -24,15 +24,16 @@ use Rattle.desk.specs.declared.Seat.{Seat}
 use Rattle.desk.specs.declared.Request.{Request}
 use Rattle.desk.specs.declared.Request.the-variants.{Begin, Lock, Touch, Release, Finish}
 use Rattle.desk.specs.Limits.{seats}
-use Rattle.desk.specs.Answers.{Said, started, wait, refused, granted, held, touched, released, finished}
-use Rattle.desk.specs.Step.{State, Outcome, outcome, freeSeat, seatAt, seatOf, fitting, beginStep, ruled, about, holdRule, touchStep, releaseStep, finishStep, kind, step}
+use Rattle.desk.specs.Answers.{Said, started, wait, refused, granted, held, touched, released, finished, cleared}
+use Rattle.desk.specs.Step.{State, Outcome, outcome, freeSeat, seatAt, seatOf, fitting, beginStep, ruled, about, holdRule, touchStep, releaseStep, finishStep, clearing, kind, step}
 use Rattle.audit.specs.Audit.{sits, suits, lowest, requestFor, asked, answered, kindOf, kindCalled, calls, allows}
-use Rattle.demands.specs.Run.{called, recordOf, Moment, next}
+use Rattle.demands.specs.Run.{called, recordOf, Moment, next, afterAll, run}
 use Rattle.demands.specs.Views.{view}
 use Rattle.demands.specs.Keeps.{Good, keeps}
 use Rattle.demands.specs.DemandTwo.{Sits, step-judged, live-small}
 use Rattle.demands.specs.AuditLaws.{lowest-passes, lowest-first, asked-calls, suitor}
-use Rattle.demands.specs.Tally.{begunIn, endedIn, liveIn, liveSeats, live-most, one-live, liveOne, Tallied, counts}
+use Rattle.demands.specs.Tally.{begunIn, endedIn, liveIn, liveSeats, live-most, one-live, liveOne, Tallied, counts, tallied-start}
+use Rattle.demands.specs.Runs.{good-start}
 
 -- after the history h the desk could write event e:
 pub record Writable (h : History) (e : Event) : Type 0 where
@@ -162,3 +163,56 @@ module _ {m : Moment} (G : Good seats m) (T : Tallied m) (full : length (m .stat
   -- the trace check allows an event exactly if the desk could write it then
   pub allowed-exactly : (e : Event) → (allows (m .state) e ≡ true) ↔ Writable (m .history) e
   allowed-exactly e = (λ c. written-writable G T (asked (m .state) e) (asked-calls (m .state) (G .seats) e c), writable-allowed e)
+
+-- ---- histories that the desk could have written
+
+-- each event could be written after the events before it
+pub data Written : History → Type 0 where
+  nothing : Written []
+  then : {e : Event} {h : History} → Written h → Writable h e → Written (e ∷ h)
+
+-- such a history is lawful, and its events are fair
+pub written-lawful : {h : History} → Written h → Lawful h
+written-lawful nothing = Lawful.nothing
+written-lawful (then w s) = and (written-lawful w) (s .lawful)
+
+pub written-fair : {h : History} → Written h → AllFair h
+written-fair nothing = AllFair.none
+written-fair (then w s) = more (s .fair) (written-fair w)
+
+-- what stood before some events was written too
+pub written-before : (es : List Event) {h : History} → Written (reverseAux es h) → Written h
+written-before [] w = w
+written-before (e ∷ es) w = older (written-before es w)
+  where
+    older : {e : Event} {h : History} → Written (e ∷ h) → Written h
+    older (then w s) = w
+
+-- and the next of them could be written then
+pub written-next : (e : Event) (es : List Event) {h : History} → Written (reverseAux es (e ∷ h)) → Writable h e
+written-next e es w = newest (written-before es w)
+  where
+    newest : {e : Event} {h : History} → Written (e ∷ h) → Writable h e
+    newest (then w s) = s
+
+-- one event is called for, or none
+one-or-none : (x : Said) (t r : ℕ) → (called x t r ≡ []) ⊎ ((e : Event) × (called x t r ≡ e ∷ []))
+one-or-none (started n) t r = inr (_, refl)
+one-or-none granted t r = inr (_, refl)
+one-or-none touched t r = inr (_, refl)
+one-or-none released t r = inr (_, refl)
+one-or-none finished t r = inr (_, refl)
+one-or-none held t r = inl refl
+one-or-none (wait k) t r = inl refl
+one-or-none (refused k) t r = inl refl
+
+-- whatever the desk is asked, it writes such a history
+written-after : (m : Moment) (qs : List Request) → Good seats m → Tallied m → Written (m .history) → Written (afterAll seats m qs .history)
+unfolding afterAll
+written-after m [] G T w = w
+written-after m (q ∷ qs) G T w =
+    written-after (next seats m q) qs (keeps G q) (counts G T q .tally)
+    (⊎-elim (λ c. subst (λ l. Written (l ++ m .history)) (sym c) w) (λ c. subst (λ l. Written (l ++ m .history)) (sym (c .1)) (then w (written-writable G T q (c .1)))) (one-or-none (step seats (m .state) q .says) _ _))
+
+pub written-run : (h l : List ℕ) (qs : List Request) → clearing seats h l .says ≡ cleared → Written (run seats h l qs .history)
+written-run h l qs c = written-after (record { state = clearing seats h l .left; history = [] }) qs (good-start seats h l c) (tallied-start seats h l) nothing
