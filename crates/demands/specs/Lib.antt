@@ -15,3 +15,4 @@ pub mod AuditLaws
 pub mod Tally
 pub mod Writable
 pub mod Scratch
+pub mod AuditRuns

@@ -69,13 +69,13 @@ written-writable {m} {e} G T q c = record {
 }
   where
     -- the next moment
-    then : Moment
-    then = record { state = step seats (m .state) q .left; history = e ∷ m .history }
+    later : Moment
+    later = record { state = step seats (m .state) q .left; history = e ∷ m .history }
 
-    is : next seats m q ≡ then
+    is : next seats m q ≡ later
     is = ap (λ (l : List Event). record { state = step seats (m .state) q .left; history = l ++ m .history }) c
 
-    after : Good seats then
+    after : Good seats later
     after = subst (Good seats) is (keeps G q)
 
     newest : {e : Event} {h : History} → Lawful (e ∷ h) → Step h e
