@@ -2,7 +2,7 @@
 use Prim.Native.Nat.{ℕ, _+_, _≤_, _<_}
 use mathlib.Core.Path.{_≡_, refl, sym, ap, subst, _∙_}
 use mathlib.Core.Bool.{Bool, true, false, not}
-use mathlib.Core.List.{List, [], _∷_, _++_, reverse, reverseAux, append-assoc}
+use mathlib.Core.List.{List, [], _∷_, _++_, map, reverse, reverseAux, append-assoc}
 use native.Mathlib.Omega.{arith}
 use borrow.Author.Tests.{eq-eqb, ne-eqb, le-leb}
 use lib.Dec.{eqb}
@@ -15,13 +15,13 @@ use Rattle.trace.specs.Causes.{ReadCause}
 use Rattle.trace.specs.Events.{spell, readAt}
 use Rattle.trace.specs.EventLaws.{event-back}
 use Rattle.trace.specs.History.{History}
-use Rattle.trace.specs.Traces.{AllFair, none, more, Read, readAll, spellAll}
+use Rattle.trace.specs.Traces.{AllFair, none, more, Read, readAll, spellAll, spell-join, fair-apart, Through, NoEvent, ended, unread as unread-there}
 use Rattle.rules.specs.View.{Reads}
 use Rattle.desk.specs.declared.Desk.{Desk}
 use Rattle.desk.specs.declared.Request.{Request}
 use Rattle.desk.specs.Limits.{seats}
 use Rattle.desk.specs.Answers.{cleared}
-use Rattle.desk.specs.Step.{State, state, fitting, clearing}
+use Rattle.desk.specs.Step.{State, state, freeDesk, fitting, ClearOutcome, clearOutcome, clearing}
 use Rattle.desk.specs.StepLaws.{step-long}
 use Rattle.audit.specs.Answers.{AuditSaid, accepted, refused, Call}
 use Rattle.audit.specs.Audit.{asked, answered, allows, Checked, checked, ending, check, checkFrom, tables, auditOf}
@@ -32,7 +32,6 @@ use Rattle.demands.specs.Runs.{good-start, cleared-long}
 use Rattle.demands.specs.AuditLaws.{asked-next}
 use Rattle.demands.specs.Tally.{Tallied, counts, tallied-start}
 use Rattle.demands.specs.Writable.{Writable, allowed-exactly, Written, nothing, then}
-use Rattle.demands.specs.Scratch.{spell-join, fair-apart, Through, NoEvent, ended, unread as unread-there}
 
 -- the requests that would write some events, one after the other
 unfoldable pub askedAll : State → List Event → List Request
@@ -125,15 +124,20 @@ stop {ds = ds} {rest = rest} (more {e} {es} f a) n R (not-allowed z s) =
     rw s (subst (λ n. Stop ds (spell e ++ spellAll es ++ rest) (refused 40 n)) (omega arith)
     (barred (ap readAt (append-assoc (spell e) (spellAll es) rest) ∙ event-back e (spellAll es ++ rest) f) (λ w. not-both (allowed-exactly (R .good) (R .tally) (R .full) e .1 w) z)))
 
--- the call over tables of 4,096 words clears them and checks
+-- a clearing of tables of 4,096 words fills them with zeros
+module _ (h l : List ℕ) (long : length h ≡ records) (beside : length l ≡ records) where
+  pub audit-clears : clearing seats h l ≡ clearOutcome cleared (state (map (λ w. 0) h) (map (λ w. 0) l) (freeDesk seats))
+  unfolding clearing fitting pick
+  audit-clears = rw (eq-eqb (length h) (length l) (long ∙ sym beside), ne-eqb (length h) 0 (λ z. omega arith), le-leb (length h) records (omega arith)) refl
+
+-- the call over such tables clears them and checks
 module _ (trace h l : List ℕ) (long : length h ≡ records) (beside : length l ≡ records) where
   pub audit-checks : auditOf trace h l ≡ tables (checkFrom trace (clearing seats h l .left))
   unfolding auditOf pick
   audit-checks = rw (eq-eqb (length h) records long, eq-eqb (length l) records beside)
 
-  pub clears : clearing seats h l .says ≡ cleared
-  unfolding clearing fitting pick
-  clears = rw (eq-eqb (length h) (length l) (long ∙ sym beside), ne-eqb (length h) 0 (λ z. omega arith), le-leb (length h) records (omega arith)) refl
+  clears : clearing seats h l .says ≡ cleared
+  clears = ap (λ (o : ClearOutcome). o .says) (audit-clears h l long beside)
 
   -- the moment after the clearing
   start : Moment

@@ -14,5 +14,5 @@ pub mod Cases
 pub mod AuditLaws
 pub mod Tally
 pub mod Writable
-pub mod Scratch
 pub mod AuditRuns
+pub mod AuditTheorems
