@@ -1,5 +1,5 @@
 -- Laws of the trace's room: an event that is noted stands behind those before it.
-use mathlib.Core.Path.{_≡_, refl, sym, ap, _∙_}
+use mathlib.Core.Path.{_≡_, sym, ap}
 use mathlib.Core.Bool.{true}
 use Prim.Native.Nat.{ℕ, _+_, _-_, _≤_}
 use mathlib.Core.List.{List, [], _∷_, _++_, reverse, reverse-cons, append-assoc, append-nil}
@@ -15,7 +15,7 @@ use Rattle.trace.specs.Events.{spell, fair, Wrote, wrote, writeAt}
 use Rattle.trace.specs.EventLaws.{write-done, event-long}
 use Rattle.trace.specs.WriteLaws.{Puts, unfair, full, done, puts}
 use Rattle.trace.specs.History.{History}
-use Rattle.trace.specs.Traces.{spellAll, AllFair, more, spell-join}
+use Rattle.trace.specs.Traces.{AllFair, more, spell-join}
 use Rattle.desk.specs.Answers.{Said, started, wait, refused, granted, held, touched, released, finished}
 use Rattle.demands.specs.Run.{called}
 use Rattle.trace.specs.Limits.{eventBytes}

@@ -1,7 +1,7 @@
 -- Laws of the words of the trace check: the lowest seat that suits, what an answer calls for, and the request that would write an event.
 use Prim.Native.Nat.{ℕ, zero, suc, _≤_, _<_}
-use mathlib.Core.Path.{_≡_, refl, sym, ap, subst, _∙_}
-use mathlib.Core.Bool.{Bool, true, false}
+use mathlib.Core.Path.{_≡_, refl, sym, ap, _∙_}
+use mathlib.Core.Bool.{Bool, true}
 use mathlib.Core.Logic.{_↔_, ⊎-elim}
 use mathlib.Core.List.{List, [], _∷_, _++_}
 use native.Mathlib.Omega.{arith}
@@ -14,7 +14,7 @@ use Rattle.trace.specs.declared.Event.{Event}
 use Rattle.trace.specs.declared.Event.the-variants.{Started, Granted, Touched, Released, Finished}
 use Rattle.desk.specs.Limits.{seats}
 use Rattle.desk.specs.Answers.{Said, started, wait, refused, granted, held, touched, released, finished}
-use Rattle.desk.specs.Step.{State, Outcome, outcome, freeSeat, seatAt, fitting, seatOf, kind, step}
+use Rattle.desk.specs.Step.{State, Outcome, freeSeat, seatAt, seatOf, step}
 use Rattle.desk.specs.declared.Seat.{Seat}
 use Rattle.audit.specs.Audit.{sits, suits, lowest, requestFor, asked, answered, kindOf, kindCalled, calls, allows}
 use Rattle.demands.specs.Run.{called, recordOf, Moment, next}

@@ -1,21 +1,19 @@
 -- The trace check as a run of the desk: its allowed events are asked for one after the other, each by the lowest seat that suits it.
-use Prim.Native.Nat.{ℕ, _+_, _≤_, _<_}
+use Prim.Native.Nat.{ℕ, _+_}
 use mathlib.Core.Path.{_≡_, refl, sym, ap, subst, _∙_}
-use mathlib.Core.Bool.{Bool, true, false, not}
+use mathlib.Core.Bool.{true, false}
 use mathlib.Core.List.{List, [], _∷_, _++_, map, reverse, reverseAux, append-assoc}
 use native.Mathlib.Omega.{arith}
 use borrow.Author.Tests.{eq-eqb, ne-eqb, le-leb}
-use lib.Dec.{eqb}
 use lib.ListN.{length, length-append}
 use Rattle.words.specs.Tests.{pick, either, not-both}
 use Rattle.trace.specs.Limits.{records}
 use Rattle.trace.specs.declared.Event.{Event}
-use Rattle.trace.specs.Answers.{ReadingSaid, event, end, no-event}
+use Rattle.trace.specs.Answers.{ReadingSaid, event}
 use Rattle.trace.specs.Causes.{ReadCause}
 use Rattle.trace.specs.Events.{spell, readAt}
 use Rattle.trace.specs.EventLaws.{event-back}
-use Rattle.trace.specs.History.{History}
-use Rattle.trace.specs.Traces.{AllFair, none, more, Read, readAll, spellAll, spell-join, fair-apart, Through, NoEvent, ended, unread as unread-there}
+use Rattle.trace.specs.Traces.{AllFair, more, readAll, spellAll, spell-join, fair-apart, Through, NoEvent, ended, unread as unread-there}
 use Rattle.rules.specs.View.{Reads}
 use Rattle.desk.specs.declared.Desk.{Desk}
 use Rattle.desk.specs.declared.Request.{Request}
@@ -24,7 +22,7 @@ use Rattle.desk.specs.Answers.{cleared}
 use Rattle.desk.specs.Step.{State, state, freeDesk, fitting, ClearOutcome, clearOutcome, clearing}
 use Rattle.desk.specs.StepLaws.{step-long}
 use Rattle.audit.specs.Answers.{AuditSaid, accepted, refused, Call}
-use Rattle.audit.specs.Audit.{asked, answered, allows, Checked, checked, ending, check, checkFrom, tables, auditOf}
+use Rattle.audit.specs.Audit.{asked, answered, allows, Checked, ending, check, checkFrom, tables, auditOf}
 use Rattle.demands.specs.Run.{Moment, next, afterAll, run}
 use Rattle.demands.specs.Views.{view}
 use Rattle.demands.specs.Keeps.{Good, keeps}

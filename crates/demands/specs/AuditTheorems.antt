@@ -1,21 +1,20 @@
 -- The trace check: it accepts what the desk could have written, and nothing else.
-use Prim.Native.Nat.{ℕ, _+_, _≤_}
+use Prim.Native.Nat.{ℕ, _+_}
 use mathlib.Core.Path.{_≡_, refl, sym, ap, ap₂, subst, _∙_}
+use mathlib.Core.Bool.{true}
 use mathlib.Core.Logic.{_≢_, _↔_}
-use mathlib.Core.List.{List, [], _∷_, _++_, map, reverse, reverseAux, reverse-reverse, reverseAux-append, append-nil, append-assoc}
+use mathlib.Core.List.{List, [], _∷_, _++_, map, reverse, reverse-reverse, reverseAux-append, append-nil, append-assoc}
 use native.Mathlib.Omega.{arith}
-use borrow.Author.Tests.{eq-eqb, ne-eqb, le-leb}
 use lib.ListN.{length, take, drop}
 use lib.Seq.{drop-append-seam, take-append-add}
-use Rattle.words.specs.Tests.{pick, clash}
+use Rattle.words.specs.Tests.{clash}
 use Rattle.words.specs.Parts.{Bytes, bytes-rest}
 use Rattle.words.specs.Chains.{Ring}
 use Rattle.trace.specs.Limits.{records}
 use Rattle.trace.specs.declared.Event.{Event}
 use Rattle.trace.specs.Answers.{event, end, no-event}
-use Rattle.trace.specs.Events.{spell, readAt}
+use Rattle.trace.specs.Events.{spell, fair, readAt}
 use Rattle.trace.specs.EventLaws.{event-back, event-only}
-use Rattle.trace.specs.Causes.{ReadCause}
 use Rattle.trace.specs.CauseLaws.{read-cause}
 use Rattle.trace.specs.History.{History, Touches, Accesses, Before}
 use Rattle.trace.specs.Traces.{AllFair, none, more, Read, readAll, spellAll, fair-onto, fair-apart, read-through, spelled-reads, spelled-through, spelled-front}
@@ -23,14 +22,14 @@ use Rattle.rules.specs.NoRing.{no-ring, no-ring-of-touches}
 use Rattle.desk.specs.declared.Request.{Request}
 use Rattle.desk.specs.Limits.{seats}
 use Rattle.desk.specs.Answers.{cleared}
-use Rattle.desk.specs.Step.{ClearOutcome, clearOutcome, state, freeDesk, fitting, clearing}
+use Rattle.desk.specs.Step.{ClearOutcome, clearOutcome, state, freeDesk, clearing}
 use Rattle.order.specs.Answers.{refused as unordered}
 use Rattle.order.specs.Order.{orderOf}
 use Rattle.order.specs.Causes.{Near}
 use Rattle.order.specs.CauseLaws.{no-event-number}
 use Rattle.order.specs.WalkLaws.{walk-whole}
 use Rattle.order.specs.Theorems.{ring-exactly}
-use Rattle.audit.specs.Answers.{AuditSaid, accepted, refused, Call}
+use Rattle.audit.specs.Answers.{AuditSaid, accepted, refused}
 use Rattle.audit.specs.Audit.{tables, checkFrom, auditOf}
 use Rattle.demands.specs.Run.{Moment, run, traceOf}
 use Rattle.demands.specs.Writable.{Writable, Written, written-lawful, written-fair, written-next, written-run}
@@ -61,6 +60,16 @@ stops-nowhere {ds = ds} w (more {e = d} {es = ms} f a) p q (barred {e} {n} r no-
     let same : d ≡ e = cc in
     absurd (no-way (subst (Writable (reverse ds)) same (could ds ms w p)))
 
+-- no run of the desk begins with some events and one that could not be written then
+front-never : (es : List Event) {e : Event} → AllFair es → fair e ≡ true → ¬ Writable (reverse es) e
+    → (h l : List ℕ) (qs : List Request) (rest : List ℕ) → clearing seats h l .says ≡ cleared → traceOf (run seats h l qs .history) ≢ spellAll es ++ spell e ++ rest
+front-never es {e} f g no-way h l qs rest c p =
+    let past = written-run h l qs c in
+    let all = fair-onto (written-fair past) none in
+    let (ms, i, j) = spelled-front f all (p ∙ append-assoc (spellAll es) (spell e) rest) in
+    let (ns, a, b) = spelled-front (more g none) (fair-apart es (subst AllFair i all) .1) (sym j ∙ ap (λ (k : List ℕ). k ++ rest) (sym (append-nil (spell e)))) in
+    no-way (could es ns past (i ∙ ap (λ (k : List Event). es ++ k) a))
+
 -- near events are fair
 near-all : {es : List Event} → Near es → AllFair es
 near-all Near.none = none
@@ -90,10 +99,10 @@ module _ (h l : List ℕ) (long : length h ≡ records) (beside : length l ≡ r
   -- the trace of a history that the desk could have written is accepted
   pub written-accepted : {past : History} → Written past → auditOf (traceOf past) h l .says ≡ accepted
   written-accepted {past} w =
-      let fair : AllFair (reverse past) = fair-onto (written-fair w) none in
-      let g = goes (traceOf past) h l long beside (spelled-through fair) in
-      let (ms, p, q) = spelled-front (oldest-fair (g .events) (g .written)) fair (g .spelt) in
-      stops-nowhere w (fair-apart (g .events) (subst AllFair p fair) .1) p q (g .stops)
+      let all : AllFair (reverse past) = fair-onto (written-fair w) none in
+      let g = goes (traceOf past) h l long beside (spelled-through all) in
+      let (ms, p, q) = spelled-front (oldest-fair (g .events) (g .written)) all (g .spelt) in
+      stops-nowhere w (fair-apart (g .events) (subst AllFair p all) .1) p q (g .stops)
 
   -- "All that our desk writes from cleared tables of 4,096 records is accepted": also from tables of fewer records.
   pub desk-accepted : (h′ l′ : List ℕ) → clearing seats h′ l′ .says ≡ cleared → (qs : List Request) → auditOf (traceOf (run seats h′ l′ qs .history)) h l .says ≡ accepted
@@ -149,12 +158,7 @@ module _ (h l : List ℕ) (long : length h ≡ records) (beside : length l ≡ r
               event-there = e;
               bytes = n;
               reads = ap readAt behind ∙ r;
-              never = λ h′ l′ qs more-bytes c p.
-                  let past = written-run h′ l′ qs c in
-                  let fair = fair-onto (written-fair past) none in
-                  let (ms, i, j) = spelled-front f fair (p ∙ ap (λ (k : List ℕ). k ++ more-bytes) front ∙ append-assoc (spellAll es) (spell e) more-bytes) in
-                  let (ns, a, b) = spelled-front (more (w .proper) none) (fair-apart es (subst AllFair i fair) .1) (sym j ∙ ap (λ (k : List ℕ). k ++ more-bytes) (sym (append-nil (spell e)))) in
-                  no-way (could es ns past (i ∙ ap (λ (k : List Event). es ++ k) a));
+              never = λ h′ l′ qs bytes-after c p. front-never es f (w .proper) no-way h′ l′ qs bytes-after c (p ∙ ap (λ (k : List ℕ). k ++ bytes-after) front);
             }
 
     -- the history of an accepted trace is of the events that were allowed

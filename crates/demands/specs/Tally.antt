@@ -1,25 +1,24 @@
 -- How many changes have started and how many are live, by the history and by the desk's record.
 use Prim.Native.Nat.{ℕ, zero, suc, _+_, _-_, _≤_, _<_}
-use mathlib.Core.Path.{_≡_, refl, sym, ap, subst, _∙_}
-use mathlib.Core.Bool.{Bool, true, false, not}
+use mathlib.Core.Path.{_≡_, refl}
+use mathlib.Core.Bool.{true, false, not}
 use mathlib.Core.List.{List, [], _∷_, map}
 use native.Mathlib.Omega.{arith}
 use borrow.Author.Tests.{leb-false, not-false}
 use lib.Dec.{leb}
 use lib.ListN.{length, getD, set, replicate, length-map}
-use Rattle.words.specs.Tests.{pick, either, clash, not-both}
+use Rattle.words.specs.Tests.{pick, either, clash}
 use Rattle.trace.specs.Limits.{limit}
-use Rattle.trace.specs.declared.Event.{Event}
 use Rattle.trace.specs.declared.Event.the-variants.{Started, Granted, Touched, Released, Finished}
 use Rattle.trace.specs.History.{History}
 use Rattle.desk.specs.declared.Seat.{Seat}
 use Rattle.desk.specs.declared.Request.{Request}
 use Rattle.desk.specs.declared.Request.the-variants.{Begin, Lock, Touch, Release, Finish}
-use Rattle.desk.specs.Answers.{Said, started, wait, refused, granted, held, touched, released, finished, cleared}
-use Rattle.desk.specs.Step.{State, Outcome, outcome, freeSeat, seatAt, fitting, beginStep, clearing, ruled, about, grant, withLock, lockRule, lockStep, holdRule, touchStep, releaseStep, leftWake, gone, finishStep, seatOf, kind, step}
+use Rattle.desk.specs.Answers.{started, refused, granted, held, released}
+use Rattle.desk.specs.Step.{Outcome, outcome, freeSeat, seatAt, fitting, beginStep, clearing, ruled, about, grant, withLock, lockRule, lockStep, holdRule, touchStep, releaseStep, leftWake, gone, finishStep, seatOf, kind, step}
 use Rattle.desk.specs.StepLaws.{about-ways, lock-ways, hold-ways}
 use Rattle.desk.specs.Promises.{clearing-frees}
-use Rattle.demands.specs.Run.{Moment, noted, next, afterAll, run}
+use Rattle.demands.specs.Run.{Moment, noted, next, afterAll}
 use Rattle.demands.specs.Views.{woken}
 use Rattle.demands.specs.Keeps.{Good, keeps}
 

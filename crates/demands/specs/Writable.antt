@@ -1,14 +1,13 @@
 -- Which events the desk could write then, in words of the history alone: exactly those that the trace check allows.
-use Prim.Native.Nat.{ℕ, suc, _+_, _≤_, _<_}
+use Prim.Native.Nat.{ℕ, suc, _+_, _<_}
 use mathlib.Core.Path.{_≡_, refl, sym, ap, subst, _∙_}
-use mathlib.Core.Bool.{Bool, true, false, not}
-use mathlib.Core.Logic.{_≢_, _↔_, _⊎_, inl, inr, ⊎-elim}
+use mathlib.Core.Bool.{true, false, not}
+use mathlib.Core.Logic.{_↔_, _⊎_, inl, inr, ⊎-elim}
 use mathlib.Core.List.{List, [], _∷_, _++_, reverseAux}
 use native.Mathlib.Omega.{arith}
-use borrow.Author.Tests.{eq-eqb, eqb-true, lt-leb, le-leb, not-true, not-false}
-use lib.Dec.{leb, eqb}
+use borrow.Author.Tests.{eq-eqb, eqb-true, lt-leb, not-true, not-false}
 use lib.ListN.{length, getD}
-use Rattle.words.specs.Tests.{pick, either, clash, not-both, and-iff, not-iff, which}
+use Rattle.words.specs.Tests.{pick, either, clash, and-iff, which}
 use Rattle.words.specs.Word.{has}
 use Rattle.trace.specs.Limits.{limit, records}
 use Rattle.trace.specs.declared.Event.{Event}
@@ -17,21 +16,20 @@ use Rattle.trace.specs.History.{History, Starts}
 use Rattle.trace.specs.Events.{fair}
 use Rattle.trace.specs.EventLaws.{fair-ticket, fair-pair}
 use Rattle.trace.specs.Traces.{AllFair, more}
-use Rattle.rules.specs.Changes.{Had, Gave, Live}
+use Rattle.rules.specs.Changes.{Gave, Live}
 use Rattle.rules.specs.Rules.{Step, Lawful, and, Holds}
 use Rattle.rules.specs.Reads.{its}
 use Rattle.desk.specs.declared.Seat.{Seat}
 use Rattle.desk.specs.declared.Request.{Request}
-use Rattle.desk.specs.declared.Request.the-variants.{Begin, Lock, Touch, Release, Finish}
+use Rattle.desk.specs.declared.Request.the-variants.{Begin, Touch, Release, Finish}
 use Rattle.desk.specs.Limits.{seats}
 use Rattle.desk.specs.Answers.{Said, started, wait, refused, granted, held, touched, released, finished, cleared}
-use Rattle.desk.specs.Step.{State, Outcome, outcome, freeSeat, seatAt, seatOf, fitting, beginStep, ruled, about, holdRule, touchStep, releaseStep, finishStep, clearing, kind, step}
-use Rattle.audit.specs.Audit.{sits, suits, lowest, requestFor, asked, answered, kindOf, kindCalled, calls, allows}
+use Rattle.desk.specs.Step.{seatAt, seatOf, beginStep, ruled, about, holdRule, touchStep, releaseStep, finishStep, clearing, kind, step}
+use Rattle.audit.specs.Audit.{sits, lowest, asked, calls, allows}
 use Rattle.demands.specs.Run.{called, recordOf, Moment, next, afterAll, run}
-use Rattle.demands.specs.Views.{view}
 use Rattle.demands.specs.Keeps.{Good, keeps}
 use Rattle.demands.specs.DemandTwo.{Sits, step-judged, live-small}
-use Rattle.demands.specs.AuditLaws.{lowest-passes, lowest-first, asked-calls, suitor}
+use Rattle.demands.specs.AuditLaws.{lowest-passes, lowest-first, asked-calls}
 use Rattle.demands.specs.Tally.{begunIn, endedIn, liveIn, liveSeats, live-most, one-live, liveOne, Tallied, counts, tallied-start}
 use Rattle.demands.specs.Runs.{good-start}
 

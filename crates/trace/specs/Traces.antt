@@ -1,5 +1,5 @@
 -- A trace of whole events, cut at any byte, reads as the events before the cut, then end if the cut is between events, else 20.
-use mathlib.Core.Path.{_≡_, ap, ap₂, refl, sym, subst, _∙_}
+use mathlib.Core.Path.{_≡_, ap, ap₂, refl, sym, _∙_}
 use mathlib.Core.Logic.{⊎-elim}
 use Prim.Native.Nat.{ℕ, zero, suc, _+_, _-_, _<_, _≤_}
 use mathlib.Core.List.{List, [], _∷_, _++_, reverseAux, append-nil, append-assoc, List·Memᴰ, List·Memᴰ·head, List·Memᴰ·tail}
@@ -131,7 +131,7 @@ read-through zero [] h by = record { rest = []; spelt = refl; proper = none; sto
 read-through zero (k ∷ l) h by = absurd (omega arith)
 read-through (suc f) l h by = go (λ n q. read-through f (drop n l) q (bytes-rest n l by)) (readAt l) (event-seen l by)
   where
-    go : ((n : ℕ) → length (drop n l) ≤ f → Through (drop n l) (readAll f (drop n l))) → (x : ReadingSaid) → EventSeen l x → Through l (elim x [ | event e n ↦ then e (readAll f (drop n l)) | end ↦ stop end | no-event x ↦ stop (no-event x) ])
+    go : ((n : ℕ) → length (drop n l) ≤ f → Through (drop n l) (readAll f (drop n l))) → (x : ReadingSaid) → EventSeen l x → Through l (elim x [ event e n ↦ then e (readAll f (drop n l)) | end ↦ stop end | no-event x ↦ stop (no-event x) ])
     go on (event e n) (whole w) =
         let t = on n (omega (arith, length-drop n l, w .some, w .fits)) in
         record {
