@@ -9,8 +9,7 @@ use lib.ListN.{length, length-append}
 use Rattle.words.specs.Tests.{pick, either, not-both}
 use Rattle.trace.specs.Limits.{records}
 use Rattle.trace.specs.declared.Event.{Event}
-use Rattle.trace.specs.Answers.{ReadingSaid, event}
-use Rattle.trace.specs.Causes.{ReadCause}
+use Rattle.trace.specs.Answers.{ReadingSaid}
 use Rattle.trace.specs.Events.{spell, readAt}
 use Rattle.trace.specs.EventLaws.{event-back}
 use Rattle.trace.specs.Traces.{AllFair, more, readAll, spellAll, spell-join, fair-apart, Through, NoEvent, ended, unread as unread-there}
@@ -21,7 +20,7 @@ use Rattle.desk.specs.Limits.{seats}
 use Rattle.desk.specs.Answers.{cleared}
 use Rattle.desk.specs.Step.{State, state, freeDesk, fitting, ClearOutcome, clearOutcome, clearing}
 use Rattle.desk.specs.StepLaws.{step-long}
-use Rattle.audit.specs.Answers.{AuditSaid, accepted, refused, Call}
+use Rattle.audit.specs.Answers.{refused, Call}
 use Rattle.audit.specs.Audit.{asked, answered, allows, Checked, ending, check, checkFrom, tables, auditOf}
 use Rattle.demands.specs.Run.{Moment, next, afterAll, run}
 use Rattle.demands.specs.Views.{view}
@@ -29,35 +28,22 @@ use Rattle.demands.specs.Keeps.{Good, keeps}
 use Rattle.demands.specs.Runs.{good-start, cleared-long}
 use Rattle.demands.specs.AuditLaws.{asked-next}
 use Rattle.demands.specs.Tally.{Tallied, counts, tallied-start}
-use Rattle.demands.specs.Writable.{Writable, allowed-exactly, Written, nothing, then}
+use Rattle.demands.specs.AuditAnswers.{Stop, whole, unread, barred, Stopped}
+use Rattle.demands.specs.Writable.{allowed-exactly, Written, nothing, then}
 
 -- the requests that would write some events, one after the other
 unfoldable pub askedAll : State → List Event → List Request
 askedAll st [] = []
 askedAll st (e ∷ es) = asked st e ∷ askedAll (answered st e .left) es
 
--- what a trace check meets after the allowed events es, where `rest` of the trace is left, and what it says then
-pub data Stop (es : List Event) (rest : List ℕ) : AuditSaid → Type 0 where
-  -- the trace ends
-  whole : rest ≡ [] → Stop es rest accepted
-  -- no event reads there
-  unread : {k : ℕ} → ReadCause k rest → Stop es rest (refused k (length (spellAll es)))
-  -- an event reads there that the desk could not write then
-  barred : {e : Event} {n : ℕ} → readAt rest ≡ event e n → ¬ Writable (reverse es) e → Stop es rest (refused 40 (length (spellAll es)))
-
 -- how a call that checks a trace goes, over tables h and l
 pub record Goes (trace h l : List ℕ) (c : Call) : Type 0 where
-  -- the trace begins with events that the desk could have written,
-  pub events : List Event
-  pub rest : List ℕ
-  pub spelt : trace ≡ spellAll events ++ rest
-  pub written : Written (reverse events)
-  -- they are asked for in turn, and the tables are left so, with some desk record: those after these events
+  -- the trace begins with events that the desk could have written, and then this is said
+  pub stopped : Stopped trace (c .says)
+  -- the events are asked for in turn, and the tables are left so, with some desk record: those after these events
   pub desk : Desk
-  pub asks : run seats h l (askedAll (clearing seats h l .left) events) ≡ record { state = state (c .held) (c .released) desk; history = reverse events }
-  pub reads : Reads (view (state (c .held) (c .released) desk)) (reverse events)
-  -- and then the check stops
-  pub stops : Stop events rest (c .says)
+  pub asks : run seats h l (askedAll (clearing seats h l .left) (stopped .events)) ≡ record { state = state (c .held) (c .released) desk; history = reverse (stopped .events) }
+  pub reads : Reads (view (state (c .held) (c .released) desk)) (reverse (stopped .events))
 
 -- ---- laws
 
@@ -154,12 +140,14 @@ module _ (trace h l : List ℕ) (long : length h ≡ records) (beside : length l
       go {x} {es} {c} {rest} s f n k =
           let apart : spellAll es ≡ spellAll (k .taken) ++ spellAll (k .untaken) = ap spellAll (k .split) ∙ spell-join (k .taken) (k .untaken) in
           record {
-            events = k .taken;
-            rest = spellAll (k .untaken) ++ rest;
-            spelt = s ∙ ap (λ (l : List ℕ). l ++ rest) apart ∙ append-assoc (spellAll (k .taken)) (spellAll (k .untaken)) rest;
-            written = k .ready .past;
+            stopped = record {
+              events = k .taken;
+              rest = spellAll (k .untaken) ++ rest;
+              spelt = s ∙ ap (λ (l : List ℕ). l ++ rest) apart ∙ append-assoc (spellAll (k .taken)) (spellAll (k .untaken)) rest;
+              written = k .ready .past;
+              stops = stop (fair-apart (k .taken) (subst AllFair (k .split) f) .1) n (k .ready) (k .stops);
+            };
             desk = c .left .desk;
             asks = k .asks;
             reads = k .ready .good .sound .reads;
-            stops = stop (fair-apart (k .taken) (subst AllFair (k .split) f) .1) n (k .ready) (k .stops);
           }

@@ -9,7 +9,7 @@ use lib.Seq.{take-nil, take-append-le, take-append-add, drop-append-seam}
 use lib.Dec.{ltb}
 use native.Mathlib.Omega.{arith}
 use borrow.Author.Tests.{lt-ltb, le-ltb}
-use Rattle.words.specs.Tests.{pick, below, clash}
+use Rattle.words.specs.Tests.{pick, below}
 use Rattle.words.specs.Parts.{Bytes, bytes-rest}
 use Rattle.trace.specs.Answers.{ReadingSaid, event, end, no-event}
 use Rattle.trace.specs.Causes.{ReadCause}
@@ -68,6 +68,12 @@ pub record Through (l : List ℕ) (r : Read) : Type 0 where
   pub spelt : l ≡ spellAll (r .events) ++ rest
   pub proper : AllFair (r .events)
   pub stops : NoEvent rest (r .last)
+
+-- two lists of events of which the same bytes tell, with r after the first and s after the second
+pub data Fronts (ds es : List Event) (r s : List ℕ) : Type 0 where
+  same : ds ≡ es → r ≡ s → Fronts ds es r s
+  longer : (e : Event) (ms : List Event) → fair e ≡ true → es ≡ ds ++ e ∷ ms → r ≡ spell e ++ (spellAll ms ++ s) → Fronts ds es r s
+  shorter : (d : Event) (ms : List Event) → fair d ≡ true → ds ≡ es ++ d ∷ ms → s ≡ spell d ++ (spellAll ms ++ r) → Fronts ds es r s
 
 -- ---- laws
 
@@ -165,21 +171,24 @@ spelled-through {es} a = rw (spelled-reads a) to-its-end
     to-its-end : Through (spellAll es) (record { events = es; last = end })
     to-its-end = record { rest = []; spelt = sym (append-nil (spellAll es)); proper = a; stops = ended refl }
 
--- a trace of whole events that begins with the spelling of some events begins with these events
-pub spelled-front : {ds es : List Event} {rest : List ℕ} → AllFair ds → AllFair es → spellAll es ≡ spellAll ds ++ rest → (more : List Event) × (es ≡ ds ++ more) × (rest ≡ spellAll more)
-unfolding readAt
-spelled-front {es = es} none b p = (es, refl, sym p)
-spelled-front {rest = rest} (more {e = d} {es = ds} f a) none p =
-    let q : end ≡ event d (length (spell d)) = ap readAt (p ∙ append-assoc (spell d) (spellAll ds) rest) ∙ event-back d (spellAll ds ++ rest) f in
-    absurd (clash (cc))
-spelled-front {rest = rest} (more {e = d} {es = ds} f a) (more {e} {es} g b) p =
-    let both : spell e ++ spellAll es ≡ spell d ++ (spellAll ds ++ rest) = p ∙ append-assoc (spell d) (spellAll ds) rest in
-    let q : event e (length (spell e)) ≡ event d (length (spell d)) = sym (event-back e (spellAll es) g) ∙ ap readAt both ∙ event-back d (spellAll ds ++ rest) f in
-    let same : e ≡ d = cc in
-    let long : length (spell e) ≡ length (spell d) = cc in
-    let behind : spellAll es ≡ spellAll ds ++ rest = sym (drop-append-seam (spell e) (spellAll es)) ∙ ap (drop (length (spell e))) both ∙ ap (λ (n : ℕ). drop n (spell d ++ (spellAll ds ++ rest))) long ∙ drop-append-seam (spell d) (spellAll ds ++ rest) in
-    let (k, i, j) = spelled-front a b behind in
-    (k, ap₂ (λ (x : Event) (y : List Event). x ∷ y) same i, j)
+-- one event more at the front of both
+fronts-more : {d e : Event} {ds es : List Event} {r s : List ℕ} → d ≡ e → Fronts ds es r s → Fronts (d ∷ ds) (e ∷ es) r s
+fronts-more p (same q z) = same (ap₂ (λ (x : Event) (y : List Event). x ∷ y) p q) z
+fronts-more p (longer e ms f q z) = longer e ms f (ap₂ (λ (x : Event) (y : List Event). x ∷ y) (sym p) q) z
+fronts-more p (shorter d ms f q z) = shorter d ms f (ap₂ (λ (x : Event) (y : List Event). x ∷ y) p q) z
+
+-- the same bytes begin with two lists of whole events: they are the same, or one goes on where the other ends
+pub fronts : {ds es : List Event} {r s : List ℕ} → AllFair ds → AllFair es → spellAll ds ++ r ≡ spellAll es ++ s → Fronts ds es r s
+fronts none none p = same refl p
+fronts {s = s} none (more {e} {es} f a) p = longer e es f refl (p ∙ append-assoc (spell e) (spellAll es) s)
+fronts {r = r} (more {e = d} {es = ds} f a) none p = shorter d ds f refl (sym p ∙ append-assoc (spell d) (spellAll ds) r)
+fronts {r = r} {s = s} (more {e = d} {es = ds} f a) (more {e} {es} g b) p =
+    let both : spell d ++ (spellAll ds ++ r) ≡ spell e ++ (spellAll es ++ s) = sym (append-assoc (spell d) (spellAll ds) r) ∙ p ∙ append-assoc (spell e) (spellAll es) s in
+    let reads : event d (length (spell d)) ≡ event e (length (spell e)) = sym (event-back d (spellAll ds ++ r) f) ∙ ap readAt both ∙ event-back e (spellAll es ++ s) g in
+    let first : d ≡ e = cc in
+    let long : length (spell d) ≡ length (spell e) = cc in
+    let behind : spellAll ds ++ r ≡ spellAll es ++ s = sym (drop-append-seam (spell d) (spellAll ds ++ r)) ∙ ap₂ drop long both ∙ drop-append-seam (spell e) (spellAll es ++ s) in
+    fronts-more first (fronts a b behind)
 
 -- the bytes of two lists of events one after the other
 pub spell-join : (ds es : List Event) → spellAll (ds ++ es) ≡ spellAll ds ++ spellAll es
