@@ -47,6 +47,7 @@ said-of end at = accepted
 said-of (no-event k) at = refused k at
 said-of (event e n) at = refused 40 at
 
+-- what is met says that
 stop-says : {es : List Event} {rest : List ℕ} {x : AuditSaid} → Stop es rest x → x ≡ said-of (readAt rest) (length (spellAll es))
 unfolding said-of readAt
 stop-says (whole e) = rw e refl

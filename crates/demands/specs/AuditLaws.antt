@@ -99,6 +99,17 @@ calls-exactly e x = (λ c. there x (eqb-true _ _ c), λ c. eq-eqb _ _ (back x c)
     back (wait k) p = absurd (clash (cc))
     back (refused k) p = absurd (clash (cc))
 
+-- what calls for a start says so
+pub started-says : (x : Said) (t r : ℕ) {n : ℕ} → called x t r ≡ Started n ∷ [] → x ≡ started n
+started-says (started k) t r p = cc
+started-says granted t r p = absurd (clash (cc))
+started-says touched t r p = absurd (clash (cc))
+started-says released t r p = absurd (clash (cc))
+started-says finished t r p = absurd (clash (cc))
+started-says held t r p = absurd (clash (cc))
+started-says (wait k) t r p = absurd (clash (cc))
+started-says (refused k) t r p = absurd (clash (cc))
+
 -- ---- the request that would write an event
 
 -- it is by the seat, and about the event's record
@@ -123,17 +134,6 @@ unseated n st s e h =
     either (λ (o : Outcome). (k : ℕ) × (o .says ≡ refused k)) _ (λ y. (1, refl)) (λ y.
     either (λ (o : Outcome). (k : ℕ) × (o .says ≡ refused k)) _ (λ z. (2, refl)) (λ z. not-both (rw (seat-asked e s) (le-leb n s h)) z))
 
--- where a start is called for it is so whatever ticket and record the request has
-started-any : (x : Said) (t r t′ r′ : ℕ) {n : ℕ} → called x t r ≡ Started n ∷ [] → called x t′ r′ ≡ Started n ∷ []
-started-any (started k) t r t′ r′ p = p
-started-any granted t r t′ r′ p = absurd (clash (cc))
-started-any touched t r t′ r′ p = absurd (clash (cc))
-started-any released t r t′ r′ p = absurd (clash (cc))
-started-any finished t r t′ r′ p = absurd (clash (cc))
-started-any held t r t′ r′ p = absurd (clash (cc))
-started-any (wait k) t r t′ r′ p = absurd (clash (cc))
-started-any (refused k) t r t′ r′ p = absurd (clash (cc))
-
 -- the change that sits at a seat has the seat's ticket
 pub sits-ticket : (t : ℕ) (v : Seat) → sits t v ≡ true → v .ticket ≡ t
 sits-ticket t v p = eqb-true (v .ticket) t (and-iff (v .live) _ .0 p .1)
@@ -156,7 +156,7 @@ module _ (st : State) (all : length (st .desk .seats) ≡ seats) where
     where
       go : (e : Event) → allows st e ≡ true → suits e (suitor st e) ≡ true → called (answered st e .says) (ticketOf e) (recordIn e) ≡ e ∷ []
           → called (answered st e .says) (seatAt (st .desk) (seatOf (asked st e)) .ticket) (recordOf (asked st e)) ≡ e ∷ []
-      go (Started t) may p c = started-any (answered st (Started t) .says) t 0 _ _ c
+      go (Started t) may p c = rw (started-says (answered st (Started t) .says) t 0 c) refl
       go (Granted t r) may p c = rw (sits-ticket t (suitor st (Granted t r)) p) c
       go (Touched t r) may p c = rw (sits-ticket t (suitor st (Touched t r)) p) c
       go (Released t r) may p c = rw (sits-ticket t (suitor st (Released t r)) p) c

@@ -80,6 +80,7 @@ record Checks (es : List Event) (x : ReadingSaid) (at : ℕ) (m : Moment) (c : C
   ready : Ready (record { state = c .left; history = reverseAux taken (m .history) })
   stops : Left x (at + length (spellAll taken)) c untaken
 
+-- it goes on as long as the events are allowed
 checks : (es : List Event) (x : ReadingSaid) (at : ℕ) (m : Moment) → Ready m → Checks es x at m (check es x at (m .state))
 unfolding check afterAll askedAll
 checks [] x at m R = record { taken = []; untaken = []; split = refl; asks = refl; ready = R; stops = none-left (ap (ending x) (omega arith)) }
@@ -108,18 +109,21 @@ stop {ds = ds} {rest = rest} (more {e} {es} f a) n R (not-allowed z s) =
     rw s (subst (λ n. Stop ds (spell e ++ spellAll es ++ rest) (refused 40 n)) (omega arith)
     (barred (ap readAt (append-assoc (spell e) (spellAll es) rest) ∙ event-back e (spellAll es ++ rest) f) (λ w. not-both (allowed-exactly (R .good) (R .tally) (R .full) e .1 w) z)))
 
--- a clearing of tables of 4,096 words fills them with zeros
+-- over tables of 4,096 words
 module _ (h l : List ℕ) (long : length h ≡ records) (beside : length l ≡ records) where
+  -- a clearing fills them with zeros
   pub audit-clears : clearing seats h l ≡ clearOutcome cleared (state (map (λ w. 0) h) (map (λ w. 0) l) (freeDesk seats))
   unfolding clearing fitting pick
   audit-clears = rw (eq-eqb (length h) (length l) (long ∙ sym beside), ne-eqb (length h) 0 (λ z. omega arith), le-leb (length h) records (omega arith)) refl
 
--- the call over such tables clears them and checks
+-- and with a trace
 module _ (trace h l : List ℕ) (long : length h ≡ records) (beside : length l ≡ records) where
+  -- the call clears them and checks the trace
   pub audit-checks : auditOf trace h l ≡ tables (checkFrom trace (clearing seats h l .left))
   unfolding auditOf pick
   audit-checks = rw (eq-eqb (length h) records long, eq-eqb (length l) records beside)
 
+  -- the clearing is not refused
   clears : clearing seats h l .says ≡ cleared
   clears = ap (λ (o : ClearOutcome). o .says) (audit-clears h l long beside)
 
@@ -127,11 +131,12 @@ module _ (trace h l : List ℕ) (long : length h ≡ records) (beside : length l
   start : Moment
   start = record { state = clearing seats h l .left; history = [] }
 
+  -- is that of a desk with 4,096 records
   start-ready : Ready start
   unfolding start
   start-ready = record { good = good-start seats h l clears; tally = tallied-start seats h l; full = cleared-long seats h l clears ∙ long; past = nothing }
 
-  -- so it goes
+  -- the call goes as `Goes` says, where the trace reads through
   pub goes : Through trace (readAll (length trace) trace) → Goes trace h l (auditOf trace h l)
   unfolding checkFrom start
   goes t = rw audit-checks (go (t .spelt) (t .proper) (t .stops) (checks (readAll (length trace) trace .events) (readAll (length trace) trace .last) 0 start start-ready))

@@ -69,11 +69,12 @@ pub record Tallied (m : Moment) : Type 0 where
 pub live-seats : {m : Moment} → Tallied m → liveSeats (m .state .desk .seats) ≡ liveIn (m .history)
 live-seats T = omega (arith, T .live)
 
--- a live seat counts 1, a free one nothing
+-- a live seat counts 1
 pub one-live : (v : Seat) → v .live ≡ true → liveOne v ≡ 1
 unfolding liveOne pick
 one-live v e = rw e
 
+-- and a free one nothing
 pub one-free : (v : Seat) → v .live ≡ false → liveOne v ≡ 0
 unfolding liveOne pick
 one-free v e = rw e
@@ -115,6 +116,7 @@ module _ {n : ℕ} {m : Moment} (G : Good n m) (T : Tallied m) where
   same : {q : Request} {k : ℕ} → Counts q (outcome (refused k) (m .state))
   same = record { tally = T; ticket = λ t e. absurd (clash (cc)) }
 
+  -- BEGIN
   counts-begin : (s : ℕ) → s < n → Counts (Begin s) (beginStep (m .state) s)
   unfolding beginStep begunIn endedIn
   counts-begin s small =
@@ -127,7 +129,7 @@ module _ {n : ℕ} {m : Moment} (G : Good n m) (T : Tallied m) where
       let b = one-free (seatAt (m .state .desk) s) free in
       record { tally = record { begun = omega (arith, T .begun); live = omega (arith, T .live) }; ticket = λ t e. cc }))
 
-  -- what leaves the record as it is, and calls for no start and no end
+  -- TOUCH and RELEASE, which leave the desk record as it is
   counts-holding : (s a : ℕ) (q : Request) (o : Outcome) → Counts q o → Counts q (about (m .state) s a (holdRule s) o)
   unfolding ruled
   counts-holding s a q o c =
@@ -139,6 +141,7 @@ module _ {n : ℕ} {m : Moment} (G : Good n m) (T : Tallied m) where
   unfolding withLock liveOne
   live-kept v r = either (λ w. liveOne w ≡ liveOne v) (v .locked) (λ e. refl) (λ e. refl)
 
+  -- LOCK
   counts-lock : (s a : ℕ) → s < n → Counts (Lock s a) (lockStep (m .state) s a)
   unfolding lockStep ruled begunIn endedIn
   counts-lock s a small =
@@ -155,6 +158,7 @@ module _ {n : ℕ} {m : Moment} (G : Good n m) (T : Tallied m) where
       o : Outcome
       o = outcome granted (grant (m .state) s a)
 
+  -- FINISH
   counts-finish : (s : ℕ) → s < n → Counts (Finish s) (finishStep (m .state) s)
   unfolding finishStep gone begunIn endedIn
   counts-finish s small =
@@ -166,7 +170,7 @@ module _ {n : ℕ} {m : Moment} (G : Good n m) (T : Tallied m) where
       let b = one-live (getD (map (leftWake s) (m .state .desk .seats)) s freeSeat) (rw (woken (m .state) s s) (not-false _ e)) in
       record { tally = record { begun = T .begun; live = omega (arith, T .live) }; ticket = λ t e. absurd (clash (cc)) })
 
-  -- ---- every request
+  -- every request
   pub counts : (q : Request) → Counts q (step n (m .state) q)
   unfolding step touchStep releaseStep begunIn endedIn
   counts q =
@@ -180,15 +184,17 @@ module _ {n : ℕ} {m : Moment} (G : Good n m) (T : Tallied m) where
       go (Release s a) l = counts-holding s a (Release s a) _ (record { tally = record { begun = T .begun; live = T .live }; ticket = λ t e. absurd (clash (cc)) })
       go (Finish s) l = counts-finish s l
 
--- from a clearing on, whatever is asked
+-- a clearing has the tally
 pub tallied-start : (n : ℕ) (h l : List ℕ) → Tallied (record { state = clearing n h l .left; history = [] })
 unfolding begunIn endedIn
 tallied-start n h l = record { begun = rw (clearing-frees n h l) refl; live = rw (clearing-frees n h l) (let k = live-none n in omega arith) }
 
+-- and whatever is asked keeps it
 pub tallied-after : {n : ℕ} (m : Moment) (qs : List Request) → Good n m → Tallied m → Tallied (afterAll n m qs)
 unfolding afterAll
 tallied-after m [] G T = T
 tallied-after m (q ∷ qs) G T = tallied-after (next _ m q) qs (keeps G q) (counts G T q .tally)
 
+-- so every run has it
 pub tallied-run : (n : ℕ) (h l : List ℕ) (qs : List Request) → clearing n h l .says ≡ cleared → Tallied (run n h l qs)
 tallied-run n h l qs c = tallied-after (record { state = clearing n h l .left; history = [] }) qs (good-start n h l c) (tallied-start n h l)

@@ -29,7 +29,7 @@ use Rattle.audit.specs.Audit.{sits, lowest, asked, calls, allows}
 use Rattle.demands.specs.Run.{called, recordOf, Moment, next, afterAll, run}
 use Rattle.demands.specs.Keeps.{Good, keeps}
 use Rattle.demands.specs.DemandTwo.{Sits, step-judged, live-small}
-use Rattle.demands.specs.AuditLaws.{lowest-passes, lowest-first, asked-calls}
+use Rattle.demands.specs.AuditLaws.{lowest-passes, lowest-first, started-says, asked-calls}
 use Rattle.demands.specs.Tally.{begunIn, endedIn, liveIn, liveSeats, live-most, one-live, liveOne, Tallied, counts, tallied-start}
 use Rattle.demands.specs.Runs.{good-start}
 
@@ -45,17 +45,7 @@ pub record Writable (h : History) (e : Event) : Type 0 where
 
 -- ---- what the desk writes is writable
 
--- what calls for a start says so
-started-says : (x : Said) (t r : ℕ) {n : ℕ} → called x t r ≡ Started n ∷ [] → x ≡ started n
-started-says (started k) t r p = cc
-started-says granted t r p = absurd (clash (cc))
-started-says touched t r p = absurd (clash (cc))
-started-says released t r p = absurd (clash (cc))
-started-says finished t r p = absurd (clash (cc))
-started-says held t r p = absurd (clash (cc))
-started-says (wait k) t r p = absurd (clash (cc))
-started-says (refused k) t r p = absurd (clash (cc))
-
+-- what an answer to a request calls for could be written then
 pub written-writable : {m : Moment} {e : Event} → Good seats m → Tallied m → (q : Request)
     → called (step seats (m .state) q .says) (seatAt (m .state .desk) (seatOf q) .ticket) (recordOf q) ≡ e ∷ [] → Writable (m .history) e
 unfolding begunIn endedIn
@@ -111,17 +101,19 @@ module _ {m : Moment} (G : Good seats m) (T : Tallied m) (full : length (m .stat
   by-kind q small = rw (G .fits, lt-leb seats (seatOf q) small)
 
   module _ (s t : ℕ) (p : Sits (m .state) s t) where
+    -- a seat that someone sits at is one of them
     small : s < seats
     small = rw (sym (G .seats)) (live-small (m .state) s (p .live))
 
     module _ (r : ℕ) (inside : r < records) (h : Holds (m .history) t r) where
+      -- who holds a record has its held bit, and not its released bit
       held-bit : has (getD (m .state .held) r 0) s ≡ true
       held-bit = G .sound .reads .held r s .1 (t, (p .live, p .ticket), h .had)
 
       unreleased-bit : has (getD (m .state .released) r 0) s ≡ false
       unreleased-bit = ⊎-elim (λ y. absurd (h .unreleased (its (G .sound .reads) (λ z. Gave (m .history) z r) (p .live, p .ticket) (G .sound .reads .released r s .0 y)))) (λ y. y) (which _)
 
-      -- a change that holds a record may touch it, and release it
+      -- so it may touch it, and release it
       touch-says : step seats (m .state) (Touch s r) .says ≡ touched
       unfolding touchStep about holdRule ruled pick
       touch-says = rw (by-kind (Touch s r) small, lt-leb (length (m .state .held)) r (rw full inside), p .live, held-bit, unreleased-bit) refl
@@ -135,7 +127,7 @@ module _ {m : Moment} (G : Good seats m) (T : Tallied m) (full : length (m .stat
     unfolding finishStep pick
     finish-says = rw (by-kind (Finish s) small, p .live) refl
 
-  -- an event is allowed
+  -- what could be written is allowed
   writable-allowed : (e : Event) → Writable (m .history) e → allows (m .state) e ≡ true
   unfolding beginStep pick
   writable-allowed (Started t) w =
@@ -204,7 +196,7 @@ one-or-none held t r = inl refl
 one-or-none (wait k) t r = inl refl
 one-or-none (refused k) t r = inl refl
 
--- whatever the desk is asked, it writes such a history
+-- whatever the desk is asked, it goes on writing such a history
 written-after : (m : Moment) (qs : List Request) → Good seats m → Tallied m → Written (m .history) → Written (afterAll seats m qs .history)
 unfolding afterAll
 written-after m [] G T w = w
@@ -212,5 +204,6 @@ written-after m (q ∷ qs) G T w =
     written-after (next seats m q) qs (keeps G q) (counts G T q .tally)
     (⊎-elim (λ c. subst (λ l. Written (l ++ m .history)) (sym c) w) (λ c. subst (λ l. Written (l ++ m .history)) (sym (c .1)) (then w (written-writable G T q (c .1)))) (one-or-none (step seats (m .state) q .says) _ _))
 
+-- and from a clearing on it writes one
 pub written-run : (h l : List ℕ) (qs : List Request) → clearing seats h l .says ≡ cleared → Written (run seats h l qs .history)
 written-run h l qs c = written-after (record { state = clearing seats h l .left; history = [] }) qs (good-start seats h l c) (tallied-start seats h l) nothing
