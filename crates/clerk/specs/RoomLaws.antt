@@ -1,5 +1,5 @@
 -- Laws of the trace's room: an event that is noted stands behind those before it.
-use mathlib.Core.Path.{_≡_, refl, sym, ap, _∙_}
+use mathlib.Core.Path.{_≡_, sym, ap}
 use mathlib.Core.Bool.{true}
 use Prim.Native.Nat.{ℕ, _+_, _-_, _≤_}
 use mathlib.Core.List.{List, [], _∷_, _++_, reverse, reverse-cons, append-assoc, append-nil}
@@ -15,7 +15,7 @@ use Rattle.trace.specs.Events.{spell, fair, Wrote, wrote, writeAt}
 use Rattle.trace.specs.EventLaws.{write-done, event-long}
 use Rattle.trace.specs.WriteLaws.{Puts, unfair, full, done, puts}
 use Rattle.trace.specs.History.{History}
-use Rattle.trace.specs.Traces.{spellAll, AllFair, more}
+use Rattle.trace.specs.Traces.{AllFair, more, spell-join}
 use Rattle.desk.specs.Answers.{Said, started, wait, refused, granted, held, touched, released, finished}
 use Rattle.demands.specs.Run.{called}
 use Rattle.trace.specs.Limits.{eventBytes}
@@ -24,11 +24,6 @@ use Rattle.demands.specs.Run.{traceOf}
 use Rattle.clerk.specs.Turns.{Traced}
 
 -- ---- what a trace is after one event more
-
--- events, and then more of them
-spell-join : (a b : List Event) → spellAll (a ++ b) ≡ spellAll a ++ spellAll b
-spell-join [] b = refl
-spell-join (e ∷ a) b = ap (λ (s : List ℕ). spell e ++ s) (spell-join a b) ∙ sym (append-assoc (spell e) (spellAll a) (spellAll b))
 
 -- the newest event stands last
 pub trace-more : (e : Event) (h : List Event) → traceOf (e ∷ h) ≡ traceOf h ++ spell e

@@ -76,7 +76,7 @@ bits-eq : (a b : ℕ) → ((u : ℕ) → (has a u ≡ true) ↔ (has b u ≡ tru
 bits-eq a b f = all-eq a b (λ u. same-test (has a u) (has b u) (f u .0) (f u .1))
 
 -- past the last seat there is none that is live
-live-small : (st : State) (s : ℕ) → seatAt (st .desk) s .live ≡ true → s < length (st .desk .seats)
+pub live-small : (st : State) (s : ℕ) → seatAt (st .desk) s .live ≡ true → s < length (st .desk .seats)
 live-small st s e = ⊎-elim (λ l. l) (λ l. absurd (clash (cc (List·getD-eq-default (st .desk .seats) freeSeat l)))) (below s (length (st .desk .seats)))
 
 module _ {n : ℕ} {m : Moment} (G : Good n m) (s t a : ℕ) (sits : Sits (m .state) s t) (inside : a < length (m .state .held)) (new : ¬ Had (m .history) t a) (unreleased : ¬ Gave (m .history) t a) where
@@ -104,7 +104,7 @@ module _ {n : ℕ} {m : Moment} (G : Good n m) (s t a : ℕ) (sits : Sits (m .st
       o : Outcome
       o = outcome granted (grant (m .state) s a)
 
-  step-judged : Judged (step n (m .state) (Lock s a) .says) (m .history) t a
+  pub step-judged : Judged (step n (m .state) (Lock s a) .says) (m .history) t a
   unfolding step pick
   step-judged =
       let small : s < n = subst (λ k. s < k) (G .seats) (live-small (m .state) s (sits .live)) in

@@ -29,6 +29,12 @@ view st =
 
 -- ---- laws
 
+-- seat x with s out of its wake
+pub woken : (st : State) (s x : ℕ) → getD (map (leftWake s) (st .desk .seats)) x freeSeat ≡ leftWake s (seatAt (st .desk) x)
+woken st s x = subst (λ d. getD (map (leftWake s) (st .desk .seats)) x d ≡ leftWake s (seatAt (st .desk) x))
+    (ap (λ w. record { ticket = 0; wake = w; live = false; locked = false }) (without-none 0 s (has-zero s)))
+    (List·getD-map (leftWake s) (st .desk .seats) x freeSeat)
+
 module _ (st : State) (s : ℕ) (lt : s < length (st .desk .seats)) where
   -- seat x after a store to seat s
   seat : (v : Seat) (F : Seat → Type 0) (x : ℕ) → (x ≡ s → F v) → (x ≢ s → F (seatAt (st .desk) x)) → F (seatAt (seatSet (st .desk) s v) x)
@@ -89,14 +95,8 @@ module _ (st : State) (s : ℕ) (lt : s < length (st .desk .seats)) where
     begun = refl;
   }
     where
-      -- seat x with s out of its wake
-      woken : (x : ℕ) → getD (map (leftWake s) (st .desk .seats)) x freeSeat ≡ leftWake s (seatAt (st .desk) x)
-      woken x = subst (λ d. getD (map (leftWake s) (st .desk .seats)) x d ≡ leftWake s (seatAt (st .desk) x))
-          (ap (λ w. record { ticket = 0; wake = w; live = false; locked = false }) (without-none 0 s (has-zero s)))
-          (List·getD-map (leftWake s) (st .desk .seats) x freeSeat)
-
       left : (F : Seat → Type 0) (x : ℕ) → (x ≡ s → F freeSeat) → (x ≢ s → F (leftWake s (seatAt (st .desk) x))) → F (seatAt ((gone st s) .desk) x)
-      left F x f g = stored (map (leftWake s) (st .desk .seats)) freeSeat s freeSeat F (rw length-map lt) x f (λ n. rw woken (g n))
+      left F x f g = stored (map (leftWake s) (st .desk .seats)) freeSeat s freeSeat F (rw length-map lt) x f (λ n. rw (woken st s) (g n))
 
 -- a later grant
 pub alike-again : (st : State) (s a : ℕ) → a < length (st .held) → Alike (again (view st) s a) (view (state (setBit (st .held) s a) (st .released) (st .desk)))

@@ -27,7 +27,7 @@ no-number (long-third a b) = omega arith
 no-number (too-large a b c d) = omega arith
 no-number (top-bit a b c) = omega arith
 
-no-event-number : {k : ℕ} {l : List ℕ} → ReadCause k l → k ≤ 23
+pub no-event-number : {k : ℕ} {l : List ℕ} → ReadCause k l → k ≤ 23
 no-event-number (no-kind n) = omega arith
 no-event-number (no-ticket k n) = omega (arith, no-number n)
 no-event-number (ticket-zero k f) = omega arith

@@ -49,7 +49,7 @@ record-refused {k} {t} {x} {l} {m} y f z e = go (kind-seen k)
     go (other n r) = absurd (n (known y))
 
 -- a cause that is there is given
-read-cause : {k : ℕ} {l : List ℕ} → ReadCause k l → readAt l ≡ no-event k
+pub read-cause : {k : ℕ} {l : List ℕ} → ReadCause k l → readAt l ≡ no-event k
 unfolding readAt readTicket asTicket asRecord pick
 read-cause (no-kind {k} {l} n) = go (kind-seen k)
   where

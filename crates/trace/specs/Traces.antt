@@ -1,19 +1,22 @@
 -- A trace of whole events, cut at any byte, reads as the events before the cut, then end if the cut is between events, else 20.
-use mathlib.Core.Path.{_≡_, ap, refl, _∙_}
+use mathlib.Core.Path.{_≡_, ap, ap₂, refl, sym, _∙_}
 use mathlib.Core.Logic.{⊎-elim}
 use Prim.Native.Nat.{ℕ, zero, suc, _+_, _-_, _<_, _≤_}
-use mathlib.Core.List.{List, [], _∷_, _++_, reverseAux, List·Memᴰ, List·Memᴰ·head, List·Memᴰ·tail}
+use mathlib.Core.List.{List, [], _∷_, _++_, reverseAux, append-nil, append-assoc, List·Memᴰ, List·Memᴰ·head, List·Memᴰ·tail}
 use mathlib.Core.Bool.{true}
-use lib.ListN.{length, take, drop}
+use lib.ListN.{length, take, drop, length-drop, length-append, take-append-drop}
 use lib.Seq.{take-nil, take-append-le, take-append-add, drop-append-seam}
 use lib.Dec.{ltb}
 use native.Mathlib.Omega.{arith}
 use borrow.Author.Tests.{lt-ltb, le-ltb}
 use Rattle.words.specs.Tests.{pick, below}
+use Rattle.words.specs.Parts.{Bytes, bytes-rest}
 use Rattle.trace.specs.Answers.{ReadingSaid, event, end, no-event}
+use Rattle.trace.specs.Causes.{ReadCause}
 use Rattle.trace.specs.Events.{spell, fair, readAt}
-use Rattle.trace.specs.EventLaws.{event-back, event-cut}
+use Rattle.trace.specs.EventLaws.{event-back, event-cut, EventSeen, whole, nothing, refused, event-seen}
 use Rattle.trace.specs.declared.Event.{Event}
+use Rattle.trace.specs.declared.Event.the-variants.{Started, Granted, Touched, Released, Finished}
 
 -- the events that a trace reads as, and what is said after them
 pub record Read : Type 0 where
@@ -53,6 +56,24 @@ unfoldable pub cutAt : ℕ → List Event → Read
 cutAt k [] = stop end
 cutAt zero (e ∷ es) = stop end
 cutAt (suc k) (e ∷ es) = pick (ltb (suc k) (length (spell e))) (stop (no-event 20)) (then e (cutAt (suc k - length (spell e)) es))
+
+-- no event stands at the front of l, and what is read there
+pub data NoEvent (l : List ℕ) : ReadingSaid → Type 0 where
+  ended : l ≡ [] → NoEvent l end
+  unread : {k : ℕ} → ReadCause k l → NoEvent l (no-event k)
+
+-- a list of bytes reads as r: its fair events are spelled one after the other, and then no event stands there
+pub record Through (l : List ℕ) (r : Read) : Type 0 where
+  pub rest : List ℕ
+  pub spelt : l ≡ spellAll (r .events) ++ rest
+  pub proper : AllFair (r .events)
+  pub stops : NoEvent rest (r .last)
+
+-- two lists of events of which the same bytes tell, with r after the first and s after the second
+pub data Fronts (ds es : List Event) (r s : List ℕ) : Type 0 where
+  same : ds ≡ es → r ≡ s → Fronts ds es r s
+  longer : (e : Event) (ms : List Event) → fair e ≡ true → es ≡ ds ++ e ∷ ms → r ≡ spell e ++ (spellAll ms ++ s) → Fronts ds es r s
+  shorter : (d : Event) (ms : List Event) → fair d ≡ true → ds ≡ es ++ d ∷ ms → s ≡ spell d ++ (spellAll ms ++ r) → Fronts ds es r s
 
 -- ---- laws
 
@@ -108,3 +129,73 @@ trace-cut (e ∷ es) (suc k) (suc f) (more a b) h = ⊎-elim inside (behind (tra
         let j : suc k ≡ n + i = omega arith in
         let s : take (suc k) (spell e ++ spellAll es) ≡ spell e ++ take i (spellAll es) = ap (λ (j : ℕ). take j (spell e ++ spellAll es)) j ∙ take-append-add (spell e) (spellAll es) i in
         rw (le-ltb (suc k) n q, s) (all-then f e (take i (spellAll es)) a ∙ ap (then e) h)
+
+-- reading at most as many events as there are bytes reads to the first place where no event stands
+pub read-through : (f : ℕ) (l : List ℕ) → length l ≤ f → Bytes l → Through l (readAll f l)
+unfolding readAll readAt
+read-through zero [] h by = record { rest = []; spelt = refl; proper = none; stops = ended refl }
+read-through zero (k ∷ l) h by = absurd (omega arith)
+read-through (suc f) l h by = go (λ n q. read-through f (drop n l) q (bytes-rest n l by)) (readAt l) (event-seen l by)
+  where
+    go : ((n : ℕ) → length (drop n l) ≤ f → Through (drop n l) (readAll f (drop n l))) → (x : ReadingSaid) → EventSeen l x → Through l (elim x [ event e n ↦ then e (readAll f (drop n l)) | end ↦ stop end | no-event x ↦ stop (no-event x) ])
+    go on (event e n) (whole w) =
+        let t = on n (omega (arith, length-drop n l, w .some, w .fits)) in
+        record {
+          rest = t .rest;
+          spelt = sym (take-append-drop n l) ∙ ap (λ (k : List ℕ). k ++ drop n l) (w .spelt) ∙ ap (λ (k : List ℕ). spell e ++ k) (t .spelt) ∙ sym (append-assoc (spell e) _ (t .rest));
+          proper = more (w .proper) (t .proper);
+          stops = t .stops;
+        }
+    go on end (nothing p) = record { rest = l; spelt = refl; proper = none; stops = ended p }
+    go on (no-event x) (refused c) = record { rest = l; spelt = refl; proper = none; stops = unread c }
+
+-- an event has a byte at least, and so a trace of events is at least as long as they are many
+spelled-some : (e : Event) → 0 < length (spell e)
+spelled-some (Started t) = omega arith
+spelled-some (Granted t r) = omega arith
+spelled-some (Touched t r) = omega arith
+spelled-some (Released t r) = omega arith
+spelled-some (Finished t) = omega arith
+
+spelled-long : (es : List Event) → length es ≤ length (spellAll es)
+spelled-long [] = omega arith
+spelled-long (e ∷ es) = omega (arith, length-append (spell e) (spellAll es), spelled-some e, spelled-long es)
+
+-- so as many readings as there are bytes read a trace of whole events to its end
+pub spelled-reads : {es : List Event} → AllFair es → readAll (length (spellAll es)) (spellAll es) ≡ record { events = es; last = end }
+spelled-reads {es} a = trace-back es (length (spellAll es)) a (spelled-long es)
+
+pub spelled-through : {es : List Event} → AllFair es → Through (spellAll es) (readAll (length (spellAll es)) (spellAll es))
+spelled-through {es} a = rw (spelled-reads a) to-its-end
+  where
+    to-its-end : Through (spellAll es) (record { events = es; last = end })
+    to-its-end = record { rest = []; spelt = sym (append-nil (spellAll es)); proper = a; stops = ended refl }
+
+-- one event more at the front of both
+fronts-more : {d e : Event} {ds es : List Event} {r s : List ℕ} → d ≡ e → Fronts ds es r s → Fronts (d ∷ ds) (e ∷ es) r s
+fronts-more p (same q z) = same (ap₂ (λ (x : Event) (y : List Event). x ∷ y) p q) z
+fronts-more p (longer e ms f q z) = longer e ms f (ap₂ (λ (x : Event) (y : List Event). x ∷ y) (sym p) q) z
+fronts-more p (shorter d ms f q z) = shorter d ms f (ap₂ (λ (x : Event) (y : List Event). x ∷ y) p q) z
+
+-- the same bytes begin with two lists of whole events: they are the same, or one goes on where the other ends
+pub fronts : {ds es : List Event} {r s : List ℕ} → AllFair ds → AllFair es → spellAll ds ++ r ≡ spellAll es ++ s → Fronts ds es r s
+fronts none none p = same refl p
+fronts {s = s} none (more {e} {es} f a) p = longer e es f refl (p ∙ append-assoc (spell e) (spellAll es) s)
+fronts {r = r} (more {e = d} {es = ds} f a) none p = shorter d ds f refl (sym p ∙ append-assoc (spell d) (spellAll ds) r)
+fronts {r = r} {s = s} (more {e = d} {es = ds} f a) (more {e} {es} g b) p =
+    let both : spell d ++ (spellAll ds ++ r) ≡ spell e ++ (spellAll es ++ s) = sym (append-assoc (spell d) (spellAll ds) r) ∙ p ∙ append-assoc (spell e) (spellAll es) s in
+    let reads : event d (length (spell d)) ≡ event e (length (spell e)) = sym (event-back d (spellAll ds ++ r) f) ∙ ap readAt both ∙ event-back e (spellAll es ++ s) g in
+    let first : d ≡ e = cc in
+    let long : length (spell d) ≡ length (spell e) = cc in
+    let behind : spellAll ds ++ r ≡ spellAll es ++ s = sym (drop-append-seam (spell d) (spellAll ds ++ r)) ∙ ap₂ drop long both ∙ drop-append-seam (spell e) (spellAll es ++ s) in
+    fronts-more first (fronts a b behind)
+
+-- the bytes of two lists of events one after the other
+pub spell-join : (ds es : List Event) → spellAll (ds ++ es) ≡ spellAll ds ++ spellAll es
+spell-join [] es = refl
+spell-join (d ∷ ds) es = ap (λ (l : List ℕ). spell d ++ l) (spell-join ds es) ∙ sym (append-assoc (spell d) (spellAll ds) (spellAll es))
+
+-- both are fair where all are
+pub fair-apart : (ds : List Event) {es : List Event} → AllFair (ds ++ es) → AllFair ds × AllFair es
+fair-apart [] a = (none, a)
+fair-apart (d ∷ ds) (more f a) = let (b, c) = fair-apart ds a in (more f b, c)
