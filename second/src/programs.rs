@@ -10,7 +10,7 @@ use crate::RefusalAt;
 /// The longest request file.
 pub const LONGEST_FILE: usize = 16_384;
 /// The longest trace that the audit program reads.
-pub const LONGEST_AUDIT: usize = 4_194_304;
+pub const LONGEST_AUDIT: usize = 524_288;
 /// The records of the desk program's tables.
 pub const RECORDS: usize = 256;
 

@@ -154,7 +154,7 @@ fn files_reach_their_limits() {
     assert!([0, 16_384, 16_385].iter().all(|length| desk.contains(length)));
     assert!([0, 65_536, 65_537].iter().all(|length| order.contains(length)));
     let audit: BTreeSet<usize> = (0..3_000).map(|index| audit_file(1, index).len()).collect();
-    assert!([0, 4_194_304, 4_194_305].iter().all(|length| audit.contains(length)));
+    assert!([0, 524_288, 524_289].iter().all(|length| audit.contains(length)));
 }
 
 #[test]

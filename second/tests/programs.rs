@@ -192,16 +192,16 @@ fn the_audit_program_prints_one_line() {
 }
 
 #[test]
-fn the_audit_program_takes_4_194_304_bytes_and_not_one_more() {
-    // A start, grants of records 5 and 200, a touch of the second and many of the first.
-    let front = [1, 1, 2, 1, 5, 2, 1, 0xC8, 1, 3, 1, 0xC8, 1];
-    let mut trace = [&front[..], &[3, 1, 5].repeat(1_398_097)].concat();
-    assert_eq!(trace.len(), 4_194_304);
+fn the_audit_program_takes_524_288_bytes_and_not_one_more() {
+    // A start, grants of records 5 and 200, two touches of the second and many of the first.
+    let front = [1, 1, 2, 1, 5, 2, 1, 0xC8, 1, 3, 1, 0xC8, 1, 3, 1, 0xC8, 1];
+    let mut trace = [&front[..], &[3, 1, 5].repeat(174_757)].concat();
+    assert_eq!(trace.len(), 524_288);
     assert_eq!(audit_text(&trace), "accepted\n");
     trace.push(6);
     assert_eq!(audit_text(&trace), "refused 26 at 0\n");
-    assert_eq!(audit_text(&[6; 4_194_305]), "refused 26 at 0\n");
-    // 4,194,304 bytes again, of which the first two start ticket 2.
+    assert_eq!(audit_text(&[6; 524_289]), "refused 26 at 0\n");
+    // 524,288 bytes again, of which the first two start ticket 2.
     assert_eq!(audit_text(&trace[1..]), "refused 40 at 0\n");
 }
 
