@@ -14,12 +14,13 @@ use Rattle.words.specs.Parts.{Bytes, bytes-rest}
 use Rattle.words.specs.Chains.{Ring}
 use Rattle.trace.specs.Limits.{records}
 use Rattle.trace.specs.declared.Event.{Event}
-use Rattle.trace.specs.Answers.{event}
+use Rattle.trace.specs.Answers.{event, end}
 use Rattle.trace.specs.Events.{spell, readAt}
 use Rattle.trace.specs.EventLaws.{event-back, event-only}
 use Rattle.trace.specs.History.{History, Touches, Accesses, Before}
 use Rattle.trace.specs.Traces.{AllFair, none, more, Read, readAll, spellAll, fair-onto, read-through, spelled-reads, spelled-through}
 use Rattle.rules.specs.NoRing.{no-ring, no-ring-of-touches}
+use Rattle.rules.specs.Junction.{junction, junction-unlawful}
 use Rattle.desk.specs.declared.Request.{Request}
 use Rattle.desk.specs.Limits.{seats}
 use Rattle.desk.specs.Answers.{cleared}
@@ -56,6 +57,10 @@ zeros-same [] (y ∷ b) e = absurd (omega arith)
 zeros-same (x ∷ a) [] e = absurd (omega arith)
 zeros-same (x ∷ a) (y ∷ b) e = ap (λ (l : List ℕ). 0 ∷ l) (zeros-same a b (omega arith))
 
+-- the junction's events are fair
+fair-junction : AllFair junction
+fair-junction = more refl (more refl (more refl (more refl (more refl (more refl (more refl (more refl (more refl (more refl (more refl (more refl none)))))))))))
+
 -- ---- the theorems: tables h and l of 4,096 words are lent
 
 -- the trace's history: the events that it reads as, newest first
@@ -73,6 +78,25 @@ module _ (h l : List ℕ) (long : length h ≡ records) (beside : length l ≡ r
   -- the trace of a history that the desk could have written is accepted
   pub written-accepted : {past : History} → Written past → auditOf (traceOf past) h l .says ≡ accepted
   written-accepted {past} w = one-answer (goes (traceOf past) h l long beside (spelled-through (fair-onto (written-fair w) none)) .stopped) (whole-stopped w)
+
+  -- and of no other history
+  pub accepted-history : {past : History} → AllFair past → auditOf (traceOf past) h l .says ≡ accepted → Written past
+  accepted-history {past} f says = go (g .spelt) (g .written) (g .stops) says
+    where
+      g : Stopped (traceOf past) (auditOf (traceOf past) h l .says)
+      g = goes (traceOf past) h l long beside (spelled-through (fair-onto f none)) .stopped
+
+      go : {es : List Event} {rest : List ℕ} {x : AuditSaid} → traceOf past ≡ spellAll es ++ rest → Written (reverse es) → Stop es rest x → x ≡ accepted → Written past
+      go {es} s w (whole r) e =
+          let bytes : traceOf past ≡ spellAll es = s ∙ ap (λ (k : List ℕ). spellAll es ++ k) r ∙ append-nil (spellAll es) in
+          let read : _≡_ {A = Read} (record { events = reverse past; last = end }) (record { events = es; last = end }) = sym (spelled-reads (fair-onto f none)) ∙ ap (λ (k : List ℕ). readAll (length k) k) bytes ∙ spelled-reads (oldest-fair es w) in
+          subst Written (ap (λ (r : Read). reverse (r .events)) (sym read) ∙ reverse-reverse past) w
+      go s w (unread c) e = absurd (clash (cc))
+      go s w (barred r n) e = absurd (clash (cc))
+
+  -- so the trace of the old desk's junction is refused
+  pub junction-refused : auditOf (traceOf junction) h l .says ≢ accepted
+  junction-refused e = junction-unlawful (written-lawful (accepted-history fair-junction e))
 
   -- "All that our desk writes from cleared tables of 4,096 records is accepted": also from tables of fewer records.
   pub desk-accepted : (h′ l′ : List ℕ) → clearing seats h′ l′ .says ≡ cleared → (qs : List Request) → auditOf (traceOf (run seats h′ l′ qs .history)) h l .says ≡ accepted

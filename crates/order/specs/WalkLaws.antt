@@ -16,7 +16,7 @@ use Rattle.trace.specs.Events.{spell, readAt, fair}
 use Rattle.trace.specs.EventLaws.{Whole, event-only, event-back, read-end}
 use Rattle.trace.specs.Causes.{ticketOf, recordOf}
 use Rattle.trace.specs.CauseLaws.{read-ended, fair-ranged}
-use Rattle.trace.specs.Traces.{spellAll, AllFair}
+use Rattle.trace.specs.Traces.{spellAll, AllFair, spelled-some}
 use Rattle.trace.specs.History.{History, Touches, Some, now, ago}
 use Rattle.trace.specs.declared.Event.{Event}
 use Rattle.trace.specs.declared.Event.the-variants.{Started, Granted, Touched, Released, Finished}
@@ -84,14 +84,6 @@ walks (suc f) l at h by lt = go (readAt l) refl (λ n. walks f (drop n l) (at + 
 
 -- ---- and each of those is a walk
 
--- an event has a byte
-spell-some : (e : Event) → 0 < length (spell e)
-spell-some (Started t) = omega arith
-spell-some (Granted t r) = omega arith
-spell-some (Touched t r) = omega arith
-spell-some (Released t r) = omega arith
-spell-some (Finished t) = omega arith
-
 -- a walk that has come to its end
 walk-end : {at : ℕ} {h : History} {rest : List ℕ} {w : Walked} (f : ℕ) → length rest < f → Ends at h rest w → walkFrom f rest at h ≡ w
 unfolding walkFrom pick
@@ -109,7 +101,7 @@ walk-over (e ∷ es) rest zero at h (more a t near) lt n = absurd (omega arith)
 walk-over (e ∷ es) rest (suc f) at h {w} (more a t near) lt n =
     rw append-assoc
     (rw (event-back e (spellAll es ++ rest) a, le-ltb tickets (ticketOf e) t, drop-append-seam)
-    (walk-over es rest f (at + length (spell e)) (e ∷ h) near (omega (arith, spell-some e, length-append (spell e ++ spellAll es) rest, length-append (spell e) (spellAll es), length-append (spellAll es) rest))
+    (walk-over es rest f (at + length (spell e)) (e ∷ h) near (omega (arith, spelled-some e, length-append (spell e ++ spellAll es) rest, length-append (spell e) (spellAll es), length-append (spellAll es) rest))
     (let p : at + length (spell e ++ spellAll es) ≡ at + length (spell e) + length (spellAll es) = omega (arith, length-append (spell e) (spellAll es)) in rw p at n)))
 
 -- what a refused walk met

@@ -150,7 +150,7 @@ read-through (suc f) l h by = go (λ n q. read-through f (drop n l) q (bytes-res
     go on (no-event x) (refused c) = record { rest = l; spelt = refl; proper = none; stops = unread c }
 
 -- an event has a byte at least, and so a trace of events is at least as long as they are many
-spelled-some : (e : Event) → 0 < length (spell e)
+pub spelled-some : (e : Event) → 0 < length (spell e)
 spelled-some (Started t) = omega arith
 spelled-some (Granted t r) = omega arith
 spelled-some (Touched t r) = omega arith
