@@ -17,6 +17,7 @@ use Rattle.trace.specs.declared.Event.{Event}
 use Rattle.trace.specs.Answers.{event, end}
 use Rattle.trace.specs.Events.{spell, readAt}
 use Rattle.trace.specs.EventLaws.{event-back, event-only}
+use Rattle.trace.specs.CauseLaws.{no-event-number}
 use Rattle.trace.specs.History.{History, Touches, Accesses, Before}
 use Rattle.trace.specs.Traces.{AllFair, none, more, Read, readAll, spellAll, fair-onto, read-through, spelled-reads, spelled-through}
 use Rattle.rules.specs.NoRing.{no-ring, no-ring-of-touches}
@@ -28,7 +29,6 @@ use Rattle.desk.specs.Step.{ClearOutcome, clearOutcome, state, freeDesk, cleari
 use Rattle.order.specs.Answers.{refused as unordered}
 use Rattle.order.specs.Order.{orderOf}
 use Rattle.order.specs.Causes.{Near}
-use Rattle.order.specs.CauseLaws.{no-event-number}
 use Rattle.order.specs.WalkLaws.{walk-whole}
 use Rattle.order.specs.Theorems.{ring-exactly}
 use Rattle.audit.specs.Answers.{AuditSaid, accepted, refused, Call, call}
@@ -201,3 +201,12 @@ unfolding auditOf
 other-length trace h l n =
     either (λ (c : Call). c ≡ call (refused 1 0) h l) (not (eqb (length h) records)) (λ a. refl) (λ a.
     either (λ (c : Call). c ≡ call (refused 1 0) h l) (not (eqb (length l) records)) (λ b. refl) (λ b. absurd (n (eqb-true _ _ (not-false _ a), eqb-true _ _ (not-false _ b)))))
+
+-- And 1 is said of nothing else.
+pub refused-1-exactly : (trace h l : List ℕ) → Bytes trace → (auditOf trace h l .says ≡ refused 1 0) ↔ (¬ ((length h ≡ records) × (length l ≡ records)))
+refused-1-exactly trace h l by = (λ e k. met (says-exactly h l (k .0) (k .1) trace by (refused 1 0) .0 e .stops) refl, λ n. ap (λ (c : Call). c .says) (other-length trace h l n))
+  where
+    met : {es : List Event} {rest : List ℕ} {x : AuditSaid} → Stop es rest x → x ≡ refused 1 0 → ⊥
+    met (whole r) e = clash (cc)
+    met (unread {k} c) e = let z : k ≡ 1 = cc in omega (arith, no-event-number c)
+    met (barred r n) e = let z : _≡_ {A = ℕ} 40 1 = cc in omega arith

@@ -7,8 +7,7 @@ use lib.ListN.{length, drop}
 use lib.Seq.{drop-append-seam}
 use Rattle.words.specs.Tests.{clash}
 use Rattle.words.specs.Parts.{Bytes, bytes-rest}
-use Rattle.trace.specs.Causes.{NoNumber, cut-first, cut-second, cut-third, long-second, long-third, too-large, top-bit, ReadCause, no-kind, no-ticket, ticket-zero, no-record, record-over}
-use Rattle.trace.specs.CauseLaws.{read-refused}
+use Rattle.trace.specs.CauseLaws.{no-event-number, read-refused}
 use Rattle.trace.specs.Traces.{spellAll}
 use Rattle.trace.specs.History.{History}
 use Rattle.trace.specs.declared.Event.{Event}
@@ -16,23 +15,6 @@ use Rattle.order.specs.Limits.{longest}
 use Rattle.order.specs.Walk.{Walked, faulty, walk}
 use Rattle.order.specs.WalkLaws.{Ends, done, unread, far, walk-over, walk-faulty}
 use Rattle.order.specs.Causes.{Near, Begins, Fit, OrderCause, far-ticket}
-
--- a number that does not read is refused with 20 or 21, and an event with 20 to 23
-no-number : {x : ℕ} {l : List ℕ} → NoNumber x l → x ≤ 21
-no-number cut-first = omega arith
-no-number (cut-second a) = omega arith
-no-number (cut-third a b) = omega arith
-no-number (long-second a) = omega arith
-no-number (long-third a b) = omega arith
-no-number (too-large a b c d) = omega arith
-no-number (top-bit a b c) = omega arith
-
-pub no-event-number : {k : ℕ} {l : List ℕ} → ReadCause k l → k ≤ 23
-no-event-number (no-kind n) = omega arith
-no-event-number (no-ticket k n) = omega (arith, no-number n)
-no-event-number (ticket-zero k f) = omega arith
-no-event-number (no-record k f z n) = omega (arith, no-number n)
-no-event-number (record-over k f z g o) = omega arith
 
 -- what follows the events that a trace of bytes begins with is bytes
 pub begins-bytes : {trace : List ℕ} {es : List Event} {rest : List ℕ} → Begins trace es rest → Bytes trace → Bytes rest

@@ -16,7 +16,7 @@ use Rattle.trace.specs.Limits.{limit, records}
 use Rattle.trace.specs.Answers.{value, no-value, end, no-event, unwritten}
 use Rattle.trace.specs.Numbers.{spellNumber, readNumber}
 use Rattle.trace.specs.Events.{spell, fair, fairTicket, fairPair, asTicket, asRecord, readTicket, afterTicket, readPair, no-pair, ofTicket, ofPair, byKind, readAt, Wrote, writeAt}
-use Rattle.trace.specs.Causes.{Front, NoNumber, KnownKind, WithRecord, ReadCause, no-kind, no-ticket, ticket-zero, no-record, record-over, ticketOf, recordOf, Ranged, WriteCause, zero-ticket, large-ticket, large-record, no-room}
+use Rattle.trace.specs.Causes.{Front, NoNumber, cut-first, cut-second, cut-third, long-second, long-third, too-large, top-bit, KnownKind, WithRecord, ReadCause, no-kind, no-ticket, ticket-zero, no-record, record-over, ticketOf, recordOf, Ranged, WriteCause, zero-ticket, large-ticket, large-record, no-room}
 use Rattle.trace.specs.NumberLaws.{number-back, number-none, NumberSeen, bad, number-seen}
 use Rattle.trace.specs.EventLaws.{fair-ticket, fair-pair, EventSeen, nothing, refused, event-seen, KindSeen, single, double, other, known, kind-seen}
 use Rattle.trace.specs.WriteLaws.{Puts, unfair, full, done, puts, put-unfair, put-full}
@@ -61,6 +61,23 @@ read-cause (no-ticket {l} y b) = ticket-refused l y (rw (number-none b))
 read-cause (ticket-zero {l} y f) = ticket-refused l y (rw (front-back f))
 read-cause (no-record y f z b) = record-refused y f z (rw (number-none b))
 read-cause (record-over {r} y f z g h) = record-refused y f z (rw (front-back g, le-ltb r records h))
+
+-- a number that does not read is refused with 20 or 21, and an event with 20 to 23
+no-number : {x : ℕ} {l : List ℕ} → NoNumber x l → (20 ≤ x) × (x ≤ 21)
+no-number cut-first = (omega arith, omega arith)
+no-number (cut-second a) = (omega arith, omega arith)
+no-number (cut-third a b) = (omega arith, omega arith)
+no-number (long-second a) = (omega arith, omega arith)
+no-number (long-third a b) = (omega arith, omega arith)
+no-number (too-large a b c d) = (omega arith, omega arith)
+no-number (top-bit a b c) = (omega arith, omega arith)
+
+pub no-event-number : {k : ℕ} {l : List ℕ} → ReadCause k l → (20 ≤ k) × (k ≤ 23)
+no-event-number (no-kind n) = (omega arith, omega arith)
+no-event-number (no-ticket k n) = (omega (arith, no-number n), omega (arith, no-number n))
+no-event-number (ticket-zero k f) = (omega arith, omega arith)
+no-event-number (no-record k f z n) = (omega (arith, no-number n), omega (arith, no-number n))
+no-event-number (record-over k f z g o) = (omega arith, omega arith)
 
 -- a number is refused with k exactly when k's cause is there
 pub number-refused : (l : List ℕ) → Bytes l → (k : ℕ) → (readNumber l ≡ no-value k) ↔ NoNumber k l
