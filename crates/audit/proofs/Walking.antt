@@ -23,8 +23,8 @@ use Rattle.trace.specs.declared.Reading.{Reading}
 use Rattle.trace.specs.declared.Reading.the-variants.{Found, End, Unread as NoEvent}
 use Rattle.desk.specs.Step.{State, state}
 use Rattle.desk.specs.declared.Desk.{Desk}
-use Rattle.audit.specs.Answers.{Call, called, refused}
-use Rattle.audit.specs.Audit.{answered, allows, Checked, checked, ending, check, checkFrom, tables}
+use Rattle.audit.specs.Answers.{refused}
+use Rattle.audit.specs.Audit.{answered, allows, Checked, checked, progressed, ending, check, checkFrom}
 use Rattle.audit.specs.Takes.{Takes}
 use Rattle.audit.specs.declared.Taken.{Taken}
 use Rattle.audit.specs.declared.Verdict.the-variants.{Accepted, Unread, NotAllowed}
@@ -67,6 +67,10 @@ pub walking-start : {trace h l : List ℕ} {d : Desk} → Bytes trace → Walkin
 unfolding checkFrom
 walking-start {trace} by = record { fuel = length trace; within = omega arith; enough = omega arith; bytes = by; same = refl }
 
+-- the offset is within the trace
+pub walking-within : {trace h l : List ℕ} {whole : Checked} {d : Desk} {at : ℕ} → Walking trace whole h l d at → at ≤ length trace
+walking-within w = w .within
+
 module _ {trace h l : List ℕ} {whole : Checked} {d : Desk} {at : ℕ} (w : Walking trace whole h l d at)
     (got : Reading) (said : readingSaid got ≡ readAt (take (length trace - at) (drop at trace))) where
   -- what stands there
@@ -74,8 +78,8 @@ module _ {trace h l : List ℕ} {whole : Checked} {d : Desk} {at : ℕ} (w : Wal
   here = sym (ap readAt (part-rest at trace)) ∙ sym said
 
   -- no event reads
-  pub walking-unread : {f : Fault} → got ≡ NoEvent f → called (Unread f at) h l ≡ tables whole
-  walking-unread {f} e = ap tables (sym (rest-fails (w .fuel) (drop at trace) at (number f) (state h l d) (here ∙ ap readingSaid e)) ∙ w .same)
+  pub walking-unread : {f : Fault} → got ≡ NoEvent f → progressed (record { verdict = Unread f at; desk = d }) h l ≡ whole
+  walking-unread {f} e = sym (rest-fails (w .fuel) (drop at trace) at (number f) (state h l d) (here ∙ ap readingSaid e)) ∙ w .same
 
   -- nothing is left
   at-end : OneOf (1 ∷ 2 ∷ []) (tagOf reading-type.the-type got) → OneOf (0 ∷ 1 ∷ []) (tagOf reading-type.the-type got) → got ≡ End
@@ -86,8 +90,8 @@ module _ {trace h l : List ℕ} {whole : Checked} {d : Desk} {at : ℕ} (w : Wal
       go End k l = refl
       go (NoEvent f) k l = absurd (⊎-elim (λ q. omega arith) (λ q. omega arith) l)
 
-  pub walking-end : OneOf (1 ∷ 2 ∷ []) (tagOf reading-type.the-type got) → OneOf (0 ∷ 1 ∷ []) (tagOf reading-type.the-type got) → called Accepted h l ≡ tables whole
-  walking-end k j = ap tables (sym (rest-ends (w .fuel) (drop at trace) at (state h l d) (here ∙ ap readingSaid (at-end k j))) ∙ w .same)
+  pub walking-end : OneOf (1 ∷ 2 ∷ []) (tagOf reading-type.the-type got) → OneOf (0 ∷ 1 ∷ []) (tagOf reading-type.the-type got) → progressed (record { verdict = Accepted; desk = d }) h l ≡ whole
+  walking-end k j = sym (rest-ends (w .fuel) (drop at trace) at (state h l d) (here ∙ ap readingSaid (at-end k j))) ∙ w .same
 
   -- an event reads
   module _ {e : Event} {n : ℕ} (is : got ≡ Found e n) where
@@ -106,7 +110,7 @@ module _ {trace h l : List ℕ} {whole : Checked} {d : Desk} {at : ℕ} (w : Wal
 
     module _ {r : Taken} {h′ l′ : List ℕ} (t : Takes e (state h l d) r h′ l′) where
       -- it is not allowed: the tables are as they were
-      pub walking-refused : not (r .allowed) ≡ true → called (NotAllowed at) h′ l′ ≡ tables whole
+      pub walking-refused : not (r .allowed) ≡ true → progressed (record { verdict = NotAllowed at; desk = d }) h′ l′ ≡ whole
       unfolding pick
       walking-refused n =
           let kept = refused-keeps e (state h l d) (sym (t .says) ∙ not-true _ n) in

@@ -17,6 +17,13 @@ auditSaid WrongLength = refused 1 0
 auditSaid (Unread fault at) = refused (number fault) at
 auditSaid (NotAllowed at) = refused 40 at
 
+-- the offset that a verdict names; 0 where it names none
+abbrev pub offsetOf : Verdict → ℕ
+offsetOf Accepted = 0
+offsetOf WrongLength = 0
+offsetOf (Unread fault at) = at
+offsetOf (NotAllowed at) = at
+
 -- what a call says, and both tables as it leaves them
 pub record Call : Type 0 where
   pub says : AuditSaid

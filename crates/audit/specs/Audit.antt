@@ -14,11 +14,12 @@ use Rattle.trace.specs.declared.Event.{Event}
 use Rattle.trace.specs.declared.Event.the-variants.{Started, Granted, Touched, Released, Finished}
 use Rattle.desk.specs.Limits.{seats}
 use Rattle.desk.specs.Answers.{Said, started, wait, refused as turned, granted, held, touched, released, finished}
-use Rattle.desk.specs.Step.{State, Outcome, clearing, step}
+use Rattle.desk.specs.Step.{State, Outcome, state, clearing, step}
 use Rattle.desk.specs.declared.Seat.{Seat}
 use Rattle.desk.specs.declared.Request.{Request}
 use Rattle.desk.specs.declared.Request.the-variants.{Begin, Lock, Touch, Release, Finish}
-use Rattle.audit.specs.Answers.{AuditSaid, accepted, refused, Call, call}
+use Rattle.audit.specs.Answers.{AuditSaid, accepted, refused, auditSaid, Call, call}
+use Rattle.audit.specs.declared.Progress.{Progress}
 
 -- ---- the request that would write an event
 
@@ -90,6 +91,10 @@ pub record Checked : Type 0 where
 abbrev pub checked : AuditSaid → State → Checked
 checked x st = record { says = x; left = st }
 
+-- a part's verdict and desk record, with the tables after it
+abbrev pub progressed : Progress → List ℕ → List ℕ → Checked
+progressed p h l = checked (auditSaid (p .verdict)) (state h l (p .desk))
+
 -- by what is read after the last event, at an offset: accepted at the end of the trace, else the refusal as it reads
 -- (an event is not: `read-through` in trace's Traces)
 abbrev pub ending : ReadingSaid → ℕ → AuditSaid
@@ -102,7 +107,7 @@ unfoldable pub check : List Event → ReadingSaid → ℕ → State → Checked
 check [] x at st = checked (ending x at) st
 check (e ∷ es) x at st = pick (allows st e) (check es x (at + length (spell e)) (answered st e .left)) (checked (refused 40 at) st)
 
--- a whole trace
+-- a whole trace, or a part of one
 unfoldable pub checkFrom : List ℕ → State → Checked
 checkFrom trace st = check (readAll (length trace) trace .events) (readAll (length trace) trace .last) 0 st
 

@@ -6,11 +6,13 @@ use desk::Seat;
 use trace::Event;
 use trace::Fault;
 use trace::Reading;
+ghost use Prim.Native.Nat.{_≤_};
 ghost use mathlib.Core.Path.{_≡_};
+ghost use lib.ListN.{length};
 ghost use Rattle.desk.specs.Answers.{said};
 ghost use Rattle.desk.specs.Step.{state};
-ghost use Rattle.audit.specs.Answers.{called};
-ghost use Rattle.audit.specs.Audit.{sits, suits, lowest, requestFor, kindOf, kindCalled, calls, tables, checkFrom, auditOf};
+ghost use Rattle.audit.specs.Answers.{called, offsetOf};
+ghost use Rattle.audit.specs.Audit.{sits, suits, lowest, requestFor, kindOf, kindCalled, calls, progressed, checkFrom, auditOf};
 ghost use Rattle.audit.specs.Takes.{Takes};
 
 // How many words each table has: one for each record.
@@ -22,6 +24,12 @@ pub enum Verdict {
     WrongLength,
     Unread { fault: Fault, at: usize },
     NotAllowed { at: usize },
+}
+
+// What the check says of a part of a trace, and the desk record after its last allowed event.
+pub struct Progress {
+    pub verdict: Verdict,
+    pub desk: Desk,
 }
 
 // Whether the desk could have written an event, and the desk record after its request.
@@ -42,26 +50,38 @@ pub fn audit_of(trace: &[u8], held: &mut [u32], released: &mut [u32]) -> Verdict
     }
     let opened = desk::clear(held, released);
     let start = opened.desk;
-    walk_trace(trace, held, released, start)
+    let checked = audit_part(trace, held, released, start);
+    let verdict = checked.verdict;
+    verdict
 }
 
-// The trace is walked event by event, each asked of the desk.
-fn walk_trace(trace: &[u8], held: &mut [u32], released: &mut [u32], start: Desk) -> Verdict
-    ensures { λ r. ⌜ called r (now (held .exit)) (now (released .exit)) ≡ tables (checkFrom (now (trace .entry)) (state (now (held .entry)) (now (released .entry)) start)) ⌝ }
+// Checks a part of a trace from what the desk holds before it, event by event; offsets count from the part's front.
+pub fn audit_part(part: &[u8], held: &mut [u32], released: &mut [u32], start: Desk) -> Progress
+    ensures { λ r. ⌜ progressed r (now (held .exit)) (now (released .exit)) ≡ checkFrom (now (part .entry)) (state (now (held .entry)) (now (released .entry)) start) ⌝ }
+    ensures within { λ r. ⌜ offsetOf (r .verdict) ≤ length (now (part .entry)) ⌝ }
 {
     let mut desk = start;
     let mut at = 0;
     loop {
-        let got = trace::read(&trace[at..]);
+        let got = trace::read(&part[at..]);
         let Reading::Found { event, length } = got else {
             if let Reading::Unread(fault) = got {
-                return Verdict::Unread { fault, at };
+                return Progress {
+                    verdict: Verdict::Unread { fault, at },
+                    desk,
+                };
             }
-            return Verdict::Accepted;
+            return Progress {
+                verdict: Verdict::Accepted,
+                desk,
+            };
         };
         let taken = take(held, released, desk, event);
         if !taken.allowed {
-            return Verdict::NotAllowed { at };
+            return Progress {
+                verdict: Verdict::NotAllowed { at },
+                desk,
+            };
         }
         desk = taken.desk;
         at += length;

@@ -14,11 +14,10 @@ use Rattle.desk.specs.Step.{fitting, clearing}
 use Rattle.text.specs.Lines.{refusedAt}
 use Rattle.text.specs.Places.{Placed, placed, puts}
 use Rattle.text.specs.PlaceLaws.{puts-within}
-use Rattle.clerk.specs.Limits.{fileBytes, auditBytes}
+use Rattle.clerk.specs.Limits.{fileBytes}
 use Rattle.clerk.specs.Answers.{AskedSaid, request, end, no-request}
 use Rattle.clerk.specs.Requests.{readRequest}
 use Rattle.clerk.specs.RequestLaws.{request-here}
-use Rattle.clerk.specs.Lines.{verdictLine, verdictOf, auditText}
 use Rattle.clerk.specs.Files.{requestsBy, requestsFrom, requestsOf, blank, textOf, deskText}
 use Rattle.clerk.specs.Turns.{Counted}
 
@@ -57,12 +56,3 @@ text-long input h = rw (lt-leb (length input) fileBytes h)
 pub text-short : (input : List ℕ) → length input ≤ fileBytes → deskText input ≡ textOf (requestsOf input)
 unfolding deskText pick
 text-short input h = rw (le-leb (length input) fileBytes h)
-
--- of a trace that is too long to be checked, and of one that is not
-pub audit-long : (trace : List ℕ) → auditBytes < length trace → auditText trace ≡ refusedAt 26 0
-unfolding auditText pick
-audit-long trace h = rw (lt-leb (length trace) auditBytes h)
-
-pub audit-short : (trace : List ℕ) → length trace ≤ auditBytes → auditText trace ≡ verdictLine (verdictOf trace)
-unfolding auditText pick
-audit-short trace h = rw (le-leb (length trace) auditBytes h)

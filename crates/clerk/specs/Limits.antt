@@ -25,10 +25,6 @@ orderTextBytes = 5403
 abbrev pub deskTextBytes : ℕ
 deskTextBytes = 242971
 
--- how many bytes a trace that the audit program checks may have
-abbrev pub auditBytes : ℕ
-auditBytes = 524288
-
--- how many bytes it prints at most: two words of eight and four, two numbers of twenty digits, and the line's end
+-- how many bytes the audit program prints at most: two words of eight and four, two numbers of twenty digits, and the line's end
 abbrev pub auditTextBytes : ℕ
 auditTextBytes = 53

@@ -1,9 +1,7 @@
 -- The lines that the programs print, as ASCII bytes.
 use Prim.Native.Nat.{ℕ, _≤_}
 use mathlib.Core.List.{List, [], _∷_, _++_}
-use lib.Dec.{leb}
 use lib.ListN.{length, take, replicate}
-use Rattle.words.specs.Tests.{pick}
 use Rattle.trace.specs.Limits.{records}
 use Rattle.desk.specs.Answers.{Said, started, wait, refused, granted, held, touched, released, finished}
 use Rattle.order.specs.Limits.{tickets, tableWords}
@@ -14,7 +12,6 @@ use Rattle.audit.specs.Answers.{AuditSaid, accepted}
 use Rattle.audit.specs.Answers as audit-answers
 use Rattle.audit.specs.Audit.{auditOf}
 use Rattle.text.specs.Lines.{lineOf, refusedAt, refusedWord}
-use Rattle.clerk.specs.Limits.{auditBytes}
 
 -- "order "
 abbrev pub orderWord : List ℕ
@@ -67,13 +64,9 @@ unfoldable pub verdictLine : AuditSaid → List ℕ
 verdictLine accepted = 97 ∷ 99 ∷ 99 ∷ 101 ∷ 112 ∷ 116 ∷ 101 ∷ 100 ∷ 10 ∷ []
 verdictLine (audit-answers.refused n offset) = refusedAt n offset
 
--- what the check says of a trace, lent two tables of zeros
-abbrev pub verdictOf : List ℕ → AuditSaid
-verdictOf trace = auditOf trace (replicate records 0) (replicate records 0) .says
-
--- what the audit program prints of a trace: at most 524,288 bytes, else the one line `refused 26 at 0`
+-- what the audit program prints of a trace: what the check says, lent two tables of zeros
 unfoldable pub auditText : List ℕ → List ℕ
-auditText trace = pick (leb (length trace) auditBytes) (verdictLine (verdictOf trace)) (refusedAt 26 0)
+auditText trace = verdictLine (auditOf trace (replicate records 0) (replicate records 0) .says)
 
 -- an order has at most as many tickets as the list has places
 pub data Within : OrderSaid → List ℕ → Type 0 where

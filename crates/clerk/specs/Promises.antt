@@ -8,15 +8,17 @@ use native.Mathlib.Omega.{arith}
 use Rattle.words.specs.Tests.{clash}
 use Rattle.words.specs.Parts.{Bytes}
 use Rattle.trace.specs.Promises.{number-once}
+use Rattle.audit.specs.Answers.{auditSaid}
+use Rattle.audit.specs.declared.Verdict.{Verdict}
 use Rattle.text.specs.Places.{Placed, placed, puts}
 use Rattle.text.specs.PlaceLaws.{puts-front}
 use Rattle.text.specs.Promises.{one-placed}
 use Rattle.clerk.specs.Limits.{orderTextBytes, deskTextBytes, auditTextBytes}
 use Rattle.clerk.specs.Answers.{askedSaid}
 use Rattle.clerk.specs.Requests.{readRequest}
-use Rattle.clerk.specs.Lines.{orderText, auditText}
+use Rattle.clerk.specs.Lines.{orderText, verdictLine, auditText}
 use Rattle.clerk.specs.Files.{deskText}
-use Rattle.clerk.specs.Sizes.{order-text-fits, desk-text-fits, audit-text-fits}
+use Rattle.clerk.specs.Sizes.{order-text-fits, desk-text-fits, verdict-fits, audit-text-fits}
 use Rattle.clerk.specs.declared.Asked.{Asked}
 use Rattle.clerk.specs.declared.Asked.the-variants.{Found, End, Unread}
 
@@ -44,6 +46,10 @@ one-desk-text r r′ t t′ input out p q = one-placed r r′ t t′ (puts (desk
 pub one-order-text : (r r′ : ℕ) (t t′ trace out : List ℕ) → placed t r ≡ puts (orderText trace) (placed out 0) → placed t′ r′ ≡ puts (orderText trace) (placed out 0) → (r ≡ r′) × (t ≡ t′)
 one-order-text r r′ t t′ trace out p q = one-placed r r′ t t′ (puts (orderText trace) (placed out 0)) p q
 
+-- `verdict_text`: one length and one buffer after it, for a verdict and a buffer
+pub one-verdict-text : (r r′ : ℕ) (t t′ out : List ℕ) (v : Verdict) → placed t r ≡ puts (verdictLine (auditSaid v)) (placed out 0) → placed t′ r′ ≡ puts (verdictLine (auditSaid v)) (placed out 0) → (r ≡ r′) × (t ≡ t′)
+one-verdict-text r r′ t t′ out v p q = one-placed r r′ t t′ (puts (verdictLine (auditSaid v)) (placed out 0)) p q
+
 -- `audit_text`: one length and one buffer after it, for a trace and a buffer
 pub one-audit-text : (r r′ : ℕ) (t t′ trace out : List ℕ) → placed t r ≡ puts (auditText trace) (placed out 0) → placed t′ r′ ≡ puts (auditText trace) (placed out 0) → (r ≡ r′) × (t ≡ t′)
 one-audit-text r r′ t t′ trace out p q = one-placed r r′ t t′ (puts (auditText trace) (placed out 0)) p q
@@ -63,6 +69,10 @@ desk-prints input out t r by h p = whole (deskText input) out t r (omega (arith,
 -- and so for a trace
 pub order-prints : (trace out t : List ℕ) (r : ℕ) → orderTextBytes ≤ length out → placed t r ≡ puts (orderText trace) (placed out 0) → take r t ≡ orderText trace
 order-prints trace out t r h p = whole (orderText trace) out t r (omega (arith, order-text-fits trace)) p
+
+-- and for a verdict, and the trace that it is of
+pub verdict-prints : (v : Verdict) (out t : List ℕ) (r : ℕ) → auditTextBytes ≤ length out → placed t r ≡ puts (verdictLine (auditSaid v)) (placed out 0) → take r t ≡ verdictLine (auditSaid v)
+verdict-prints v out t r h p = whole (verdictLine (auditSaid v)) out t r (omega (arith, verdict-fits (auditSaid v))) p
 
 pub audit-prints : (trace out t : List ℕ) (r : ℕ) → auditTextBytes ≤ length out → placed t r ≡ puts (auditText trace) (placed out 0) → take r t ≡ auditText trace
 audit-prints trace out t r h p = whole (auditText trace) out t r (omega (arith, audit-text-fits trace)) p

@@ -4,8 +4,7 @@ use mathlib.Core.Path.{_≡_, refl, ap}
 use mathlib.Core.List.{List, [], _∷_}
 use lib.ListN.{length, take, drop, replicate, length-append, length-drop, length-take}
 use native.Mathlib.Omega.{arith}
-use lib.Dec.{leb}
-use Rattle.words.specs.Tests.{either, below}
+use Rattle.words.specs.Tests.{below}
 use mathlib.Core.Logic.{⊎-elim}
 use Rattle.words.specs.Parts.{Bytes, bytes-rest}
 use Rattle.trace.specs.History.{History}
@@ -23,11 +22,11 @@ use Rattle.demands.specs.Run.{Moment, recordOf, next, afterAll}
 use Rattle.text.specs.Lines.{atWord, refusedAt}
 use Rattle.text.specs.LineLaws.{numeral-long, line-of-long}
 use Rattle.trace.specs.Limits.{eventBytes}
-use Rattle.clerk.specs.Limits.{fileBytes, roomBytes, lineBytes, orderTextBytes, deskTextBytes, auditBytes, auditTextBytes}
+use Rattle.clerk.specs.Limits.{fileBytes, roomBytes, lineBytes, orderTextBytes, deskTextBytes, auditTextBytes}
 use Rattle.clerk.specs.Answers.{AskedSaid, request, end, no-request}
 use Rattle.clerk.specs.Requests.{readRequest}
 use Rattle.clerk.specs.RequestLaws.{request-here}
-use Rattle.clerk.specs.Lines.{orderWord, line, lines, ticketLines, listed, orderLines, orderText, verdictLine, verdictOf, auditText}
+use Rattle.clerk.specs.Lines.{orderWord, line, lines, ticketLines, listed, orderLines, orderText, verdictLine, auditText}
 use Rattle.order.specs.Theorems.{ordered-few}
 use Rattle.clerk.specs.RoomLaws.{called-long}
 use Rattle.clerk.specs.Files.{Ending, all, fault, requestsBy, requestsFrom, requestsOf, after, answers, closing, deskText}
@@ -141,10 +140,11 @@ desk-text-fits input by = ⊎-elim long short (below fileBytes (length input))
         rw (text-short input h) (simp length-append (omega (arith, lines-long (answers (after []) (r .asked)), answers-many (after []) (r .asked), closing-long (r .ending) (after (r .asked) .history), requests-few input by)))
 
 -- the audit program's
+pub verdict-fits : (x : AuditSaid) → length (verdictLine x) ≤ auditTextBytes
+unfolding verdictLine
+verdict-fits accepted = omega arith
+verdict-fits (audit-answers.refused n offset) = refused-long n offset
+
 pub audit-text-fits : (trace : List ℕ) → length (auditText trace) ≤ auditTextBytes
-unfolding auditText verdictLine
-audit-text-fits trace = either (λ (s : List ℕ). length s ≤ auditTextBytes) (leb (length trace) auditBytes) (λ e. go (verdictOf trace)) (λ e. refused-long 26 0)
-  where
-    go : (x : AuditSaid) → length (verdictLine x) ≤ auditTextBytes
-    go accepted = omega arith
-    go (audit-answers.refused n offset) = refused-long n offset
+unfolding auditText
+audit-text-fits trace = verdict-fits _

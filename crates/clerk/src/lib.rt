@@ -31,7 +31,7 @@ use trace::Fault;
 use trace::Numeral;
 use trace::Writing;
 
-// How many bytes a request file may have. It stands once more, in specs/Limits.antt, as do the next six.
+// How many bytes a request file may have. It stands once more, in specs/Limits.antt, as do the next five.
 pub const FILE_BYTES: usize = 16384;
 
 // How many records the desk program's tables have.
@@ -45,9 +45,6 @@ pub const ORDER_TEXT: usize = 5403;
 
 // How many bytes the desk program prints at most: 8,192 lines of 29, and an order.
 pub const DESK_TEXT: usize = 242971;
-
-// How many bytes a trace that the audit program checks may have.
-pub const AUDIT_BYTES: usize = 524288;
 
 // How many bytes the audit program prints at most.
 pub const AUDIT_TEXT: usize = 53;
@@ -488,16 +485,21 @@ pub fn order_text(trace: &[u8], out: &mut [u8]) -> usize
     put_order(out, 0, trace)
 }
 
-// What the audit program prints of a trace, in the same way.
+// What the audit program prints of a verdict, in the same way.
+pub fn verdict_text(verdict: Verdict, out: &mut [u8]) -> usize
+    ensures { λ r. ⌜ placed (now (out .exit)) r ≡ puts (verdictLine (auditSaid verdict)) (placed (now (out .entry)) 0) ⌝ }
+    ensures { λ r. ⌜ Counted r (now (out .exit)) ⌝ }
+{
+    put_verdict(out, 0, verdict)
+}
+
+// And of a trace.
 pub fn audit_text(trace: &[u8], out: &mut [u8]) -> usize
     ensures { λ r. ⌜ placed (now (out .exit)) r ≡ puts (auditText (now (trace .entry))) (placed (now (out .entry)) 0) ⌝ }
     ensures { λ r. ⌜ Counted r (now (out .exit)) ⌝ }
 {
-    if AUDIT_BYTES < trace.len() {
-        return text::put_refused(out, 0, 26, 0);
-    }
     let mut held = [0u32; AUDIT_TABLE];
     let mut released = [0u32; AUDIT_TABLE];
     let verdict = audit::audit_of(trace, &mut held, &mut released);
-    put_verdict(out, 0, verdict)
+    verdict_text(verdict, out)
 }

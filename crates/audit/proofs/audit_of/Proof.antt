@@ -7,21 +7,22 @@ use borrow.Author.Tests.{eq-eqb}
 use lib.ListN.{length}
 use Rattle.trace.specs.Limits.{records}
 use Rattle.desk.specs.Limits.{seats}
-use Rattle.desk.specs.Step.{State, ClearOutcome, state, opened, clearing}
+use Rattle.desk.specs.Step.{ClearOutcome, state, opened, clearing}
 use Rattle.desk.specs.declared.Opened.{Opened}
-use Rattle.audit.specs.Answers.{Call}
-use Rattle.audit.specs.Audit.{checkFrom, tables, auditOf}
+use Rattle.audit.specs.Answers.{called}
+use Rattle.audit.specs.Audit.{progressed, checkFrom, tables, auditOf}
+use Rattle.audit.specs.declared.Progress.{Progress}
 use borrow.Author.Needs.{needs}
 use Rattle.audit.proofs.audit_of.Statement.{statement}
 use Rattle.audit.proofs.audit_of.Tie as tie
 
--- tables of the right length: the clearing, and then the walk
-audits : (trace h l h′ l′ : List ℕ) (o : Opened) (r : Call) → length h ≡ records → length l ≡ records → opened o h′ l′ ≡ clearing seats h l
-    → r ≡ tables (checkFrom trace (state h′ l′ (o .desk))) → r ≡ auditOf trace h l
+-- tables of the right length: the clearing, and then the check
+audits : (trace h l h′ l′ h″ l″ : List ℕ) (o : Opened) (p : Progress) → length h ≡ records → length l ≡ records → opened o h′ l′ ≡ clearing seats h l
+    → progressed p h″ l″ ≡ checkFrom trace (state h′ l′ (o .desk)) → called (p .verdict) h″ l″ ≡ auditOf trace h l
 unfolding auditOf pick
-audits trace h l h′ l′ o r eh el did walked =
+audits trace h l h′ l′ h″ l″ o p eh el did checked =
     let same : state h′ l′ (o .desk) ≡ clearing seats h l .left = ap (λ (x : ClearOutcome). x .left) did in
-    rw (eq-eqb (length h) records eh, eq-eqb (length l) records el) (walked ∙ ap (λ (st : State). tables (checkFrom trace st)) same)
+    rw (eq-eqb (length h) records eh, eq-eqb (length l) records el) (ap tables (checked ∙ ap (checkFrom trace) same))
 
 returns : tie.Need-returns
 unfolding auditOf pick
@@ -34,8 +35,8 @@ returns-2 c = search tests
 clear-requires : tie.Need-clear-requires
 clear-requires c κs = search needs
 
-walk-trace-requires : tie.Need-walk-trace-requires
-walk-trace-requires c κs = search needs
+audit-part-requires : tie.Need-audit-part-requires
+audit-part-requires c κs = search needs
 
 same-length : tie.Need-same-length
 same-length c = search needs
@@ -53,7 +54,7 @@ audit-of-spec =
     returns
     returns-2
     clear-requires
-    walk-trace-requires
+    audit-part-requires
     same-length
     same-length-2
     returns-3)
