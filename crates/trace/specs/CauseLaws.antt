@@ -3,22 +3,22 @@ use mathlib.Core.Path.{_≡_, refl, sym, subst, ap, _∙_}
 use mathlib.Core.Logic.{_≢_, _↔_, ⊎-elim}
 use mathlib.Core.Bool.{true, false}
 use Prim.Native.Nat.{ℕ, suc, _<_, _≤_}
-use mathlib.Core.List.{List, [], _∷_}
+use mathlib.Core.List.{List, [], _∷_, _++_, append-assoc}
 use lib.Seq.{drop-append-seam}
 use native.Mathlib.Numerals.{one-add}
 use native.Mathlib.Omega.{arith}
 use borrow.Author.Tests.{le-ltb, ne-eqb, eqb-true, eqb-false}
-use lib.ListN.{length}
+use lib.ListN.{length, length-append}
 use lib.Dec.{eqb}
 use Rattle.words.specs.Tests.{pick, clash, which, below, not-both, not-iff}
 use Rattle.words.specs.Parts.{Bytes}
-use Rattle.trace.specs.Limits.{limit, records}
+use Rattle.trace.specs.Limits.{limit, records, eventBytes}
 use Rattle.trace.specs.Answers.{value, no-value, end, no-event, unwritten}
 use Rattle.trace.specs.Numbers.{spellNumber, readNumber}
 use Rattle.trace.specs.Events.{spell, fair, fairTicket, fairPair, asTicket, asRecord, readTicket, afterTicket, readPair, no-pair, ofTicket, ofPair, byKind, readAt, Wrote, writeAt}
 use Rattle.trace.specs.Causes.{Front, NoNumber, cut-first, cut-second, cut-third, long-second, long-third, too-large, top-bit, KnownKind, WithRecord, ReadCause, no-kind, no-ticket, ticket-zero, no-record, record-over, ticketOf, recordOf, Ranged, WriteCause, zero-ticket, large-ticket, large-record, no-room}
 use Rattle.trace.specs.NumberLaws.{number-back, number-none, NumberSeen, bad, number-seen}
-use Rattle.trace.specs.EventLaws.{fair-ticket, fair-pair, EventSeen, nothing, refused, event-seen, KindSeen, single, double, other, known, kind-seen}
+use Rattle.trace.specs.EventLaws.{fair-ticket, fair-pair, EventSeen, nothing, refused, event-seen, KindSeen, single, double, other, known, kind-seen, number-long}
 use Rattle.trace.specs.WriteLaws.{Puts, unfair, full, done, puts, put-unfair, put-full}
 use Rattle.trace.specs.declared.Event.{Event}
 use Rattle.trace.specs.declared.Event.the-variants.{Started, Granted, Touched, Released, Finished}
@@ -78,6 +78,44 @@ no-event-number (no-ticket k n) = (omega (arith, no-number n), omega (arith, no-
 no-event-number (ticket-zero k f) = (omega arith, omega arith)
 no-event-number (no-record k f z n) = (omega (arith, no-number n), omega (arith, no-number n))
 no-event-number (record-over k f z g o) = (omega arith, omega arith)
+
+-- a number at the front stays there, whatever is appended
+front-more : {n : ℕ} {l m : List ℕ} → Front n l m → (r : List ℕ) → Front n (l ++ r) (m ++ r)
+front-more {n} {l} {m} f r = record { spelt = ap (λ (s : List ℕ). s ++ r) (f .spelt) ∙ append-assoc (spellNumber n) m r; small = f .small }
+
+-- and so does any refusal but 20
+none-more : {x : ℕ} {l : List ℕ} → NoNumber x l → x ≢ 20 → (r : List ℕ) → NoNumber x (l ++ r)
+none-more cut-first d r = absurd (d refl)
+none-more (cut-second a) d r = absurd (d refl)
+none-more (cut-third a b) d r = absurd (d refl)
+none-more (long-second a) d r = long-second a
+none-more (long-third a b) d r = long-third a b
+none-more (too-large a b c h) d r = too-large a b c h
+none-more (top-bit a b c) d r = top-bit a b c
+
+pub cause-more : {k : ℕ} {l : List ℕ} → ReadCause k l → k ≢ 20 → (r : List ℕ) → ReadCause k (l ++ r)
+cause-more (no-kind n) d r = no-kind n
+cause-more (no-ticket y b) d r = no-ticket y (none-more b d r)
+cause-more (ticket-zero y f) d r = ticket-zero y (front-more f r)
+cause-more (no-record y f z b) d r = no-record y (front-more f r) z (none-more b d r)
+cause-more (record-over y f z g h) d r = record-over y (front-more f r) z (front-more g r) h
+
+-- a number that is cut has two bytes at most, and an event that is cut is shorter than the longest
+number-cut-short : {x : ℕ} {l : List ℕ} → NoNumber x l → x ≡ 20 → length l < 3
+number-cut-short cut-first e = omega arith
+number-cut-short (cut-second a) e = omega arith
+number-cut-short (cut-third a b) e = omega arith
+number-cut-short (long-second a) e = absurd (omega arith)
+number-cut-short (long-third a b) e = absurd (omega arith)
+number-cut-short (too-large a b c h) e = absurd (omega arith)
+number-cut-short (top-bit a b c) e = absurd (omega arith)
+
+pub cut-short : {k : ℕ} {l : List ℕ} → ReadCause k l → k ≡ 20 → length l < eventBytes
+cut-short (no-kind n) e = absurd (omega arith)
+cut-short (no-ticket y b) e = omega (arith, number-cut-short b e)
+cut-short (ticket-zero y f) e = absurd (omega arith)
+cut-short (no-record {t} {m} y f z b) e = omega (arith, ap length (f .spelt), length-append (spellNumber t) m, number-long t, number-cut-short b e)
+cut-short (record-over y f z g h) e = absurd (omega arith)
 
 -- a number is refused with k exactly when k's cause is there
 pub number-refused : (l : List ℕ) → Bytes l → (k : ℕ) → (readNumber l ≡ no-value k) ↔ NoNumber k l

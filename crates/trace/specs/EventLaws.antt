@@ -62,6 +62,12 @@ pub data EventSeen (l : List ℕ) : ReadingSaid → Type 0 where
   nothing : l ≡ [] → EventSeen l end
   refused : {x : ℕ} → ReadCause x l → EventSeen l (no-event x)
 
+-- what is read takes bytes, or is no event
+pub data Forward : ReadingSaid → Type 0 where
+  forth : {e : Event} {n : ℕ} → 0 < n → Forward (event e n)
+  ends : Forward end
+  stays : {k : ℕ} → Forward (no-event k)
+
 -- ---- laws: what fairness says
 
 -- ticket 1 to 65,535
@@ -247,6 +253,31 @@ event-seen (k ∷ l) by = go (kind-seen k)
     go (double s) = rw (s .reads (k ∷ l)) (two-seen s rest)
     go (other n e) = rw (e (k ∷ l)) (refused (no-kind n))
 
+-- of any list of numbers, what reads as an event takes one at least
+one-forth : (c : ℕ → Event) (x : NumberSaid) → Forward (ofTicket c (asTicket x))
+unfolding asTicket ofTicket
+one-forth c (value t n) = either (λ y. Forward (ofTicket c y)) (eqb t 0) (λ e. stays) (λ e. forth {n = 1 + n} (omega arith))
+one-forth c (no-value k) = stays
+
+two-forth : (c : ℕ → ℕ → Event) (l : List ℕ) (x : NumberSaid) → Forward (ofPair c (afterTicket l (asTicket x)))
+unfolding asTicket afterTicket asRecord ofPair
+two-forth c l (value t n) = either (λ y. Forward (ofPair c (afterTicket l y))) (eqb t 0) (λ e. stays) (λ e. behind (readNumber (drop (1 + n) l)))
+  where
+    behind : (y : NumberSaid) → Forward (ofPair c (asRecord t (1 + n) y))
+    behind (value r m) = either (λ z. Forward (ofPair c z)) (ltb r records) (λ e. forth {n = 1 + n + m} (omega arith)) (λ e. stays)
+    behind (no-value k) = stays
+two-forth c l (no-value k) = stays
+
+pub forward : (l : List ℕ) → Forward (readAt l)
+unfolding readAt readTicket readPair
+forward [] = ends
+forward (k ∷ l) = go (kind-seen k)
+  where
+    go : KindSeen k → Forward (byKind k (k ∷ l))
+    go (single {c} s) = rw (s .reads (k ∷ l)) (one-forth c (readNumber l))
+    go (double {c} s) = rw (s .reads (k ∷ l)) (two-forth c (k ∷ l) (readNumber l))
+    go (other n e) = rw (e (k ∷ l)) stays
+
 -- one spelling: bytes that read as an event begin with its spelling
 pub event-only : (l : List ℕ) {e : Event} {n : ℕ} → Bytes l → readAt l ≡ event e n → Whole l e n
 event-only l by h = taken (subst (λ r. EventSeen l r) h (event-seen l by))
@@ -290,7 +321,7 @@ write-read e room {n} h = go (puts (fair e) (spell e) room) h
 -- ---- how long events are
 
 -- a number takes at most three bytes
-number-long : (n : ℕ) → length (spellNumber n) ≤ 3
+pub number-long : (n : ℕ) → length (spellNumber n) ≤ 3
 unfolding spellNumber
 number-long n = either (λ (s : List ℕ). length s ≤ 3) (ltb n 128) (λ e. omega arith) (λ e. either (λ (s : List ℕ). length s ≤ 3) (ltb n 16384) (λ f. omega arith) (λ f. omega arith))
 

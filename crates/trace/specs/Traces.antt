@@ -14,7 +14,8 @@ use Rattle.words.specs.Parts.{Bytes, bytes-rest}
 use Rattle.trace.specs.Answers.{ReadingSaid, event, end, no-event}
 use Rattle.trace.specs.Causes.{ReadCause}
 use Rattle.trace.specs.Events.{spell, fair, readAt}
-use Rattle.trace.specs.EventLaws.{event-back, event-cut, EventSeen, whole, nothing, refused, event-seen}
+use Rattle.trace.specs.EventLaws.{event-back, event-cut, EventSeen, whole, nothing, refused, event-seen, Forward, forth, ends, stays, forward}
+use Rattle.trace.specs.CauseLaws.{read-cause}
 use Rattle.trace.specs.declared.Event.{Event}
 use Rattle.trace.specs.declared.Event.the-variants.{Started, Granted, Touched, Released, Finished}
 
@@ -26,6 +27,10 @@ pub record Read : Type 0 where
 -- an event before what else is read
 abbrev pub then : Event → Read → Read
 then e r = record { events = e ∷ r .events; last = r .last }
+
+-- events before what else is read
+abbrev pub onto : List Event → Read → Read
+onto es r = record { events = es ++ r .events; last = r .last }
 
 -- no event, only what is said
 abbrev pub stop : ReadingSaid → Read
@@ -199,3 +204,43 @@ spell-join (d ∷ ds) es = ap (λ (l : List ℕ). spell d ++ l) (spell-join ds e
 pub fair-apart : (ds : List Event) {es : List Event} → AllFair (ds ++ es) → AllFair ds × AllFair es
 fair-apart [] a = (none, a)
 fair-apart (d ∷ ds) (more f a) = let (b, c) = fair-apart ds a in (more f b, c)
+
+-- ---- laws: what follows
+
+-- where no event stands, that is what is read, however often
+pub all-cause : (f : ℕ) {k : ℕ} {l : List ℕ} → ReadCause k l → readAll f l ≡ stop (no-event k)
+unfolding readAll
+all-cause zero c = ap stop (read-cause c)
+all-cause (suc f) {l = l} c = all-refused f l (read-cause c)
+
+-- the number of readings does not matter where it is at least the length
+pub all-enough : (f g : ℕ) (l : List ℕ) → length l ≤ f → length l ≤ g → readAll f l ≡ readAll g l
+unfolding readAll
+all-enough zero g [] h i = all-end zero ∙ sym (all-end g)
+all-enough zero g (k ∷ l) h i = absurd (omega arith)
+all-enough (suc f) zero [] h i = all-end (suc f) ∙ sym (all-end zero)
+all-enough (suc f) zero (k ∷ l) h i = absurd (omega arith)
+all-enough (suc f) (suc g) l h i = go (λ n p q. all-enough f g (drop n l) p q) (readAt l) (forward l)
+  where
+    go : ((n : ℕ) → length (drop n l) ≤ f → length (drop n l) ≤ g → readAll f (drop n l) ≡ readAll g (drop n l)) → (x : ReadingSaid) → Forward x
+        → _≡_ {A = Read} (elim x [ event e n ↦ then e (readAll f (drop n l)) | end ↦ stop end | no-event x ↦ stop (no-event x) ])
+        (elim x [ event e n ↦ then e (readAll g (drop n l)) | end ↦ stop end | no-event x ↦ stop (no-event x) ])
+    go on (event e n) (forth p) = ap (then e) (on n (omega (arith, length-drop n l)) (omega (arith, length-drop n l)))
+    go on end ends = refl
+    go on (no-event x) stays = refl
+
+-- whole events are read, and then what follows them
+all-onto : {es : List Event} → AllFair es → (f g : ℕ) (r : List ℕ) → g ≡ length es + f → readAll g (spellAll es ++ r) ≡ onto es (readAll f r)
+all-onto none f g r h = let same : g ≡ f = omega arith in ap (λ (k : ℕ). readAll k r) same
+all-onto (more {e} {es} p a) f zero r h = absurd (omega arith)
+all-onto (more {e} {es} p a) f (suc g) r h =
+    ap (readAll (suc g)) (append-assoc (spell e) (spellAll es) r) ∙ all-then g e (spellAll es ++ r) p ∙ ap (then e) (all-onto a f g r (omega arith))
+
+pub trace-onto : {es : List Event} → AllFair es → (r : List ℕ) → readAll (length (spellAll es ++ r)) (spellAll es ++ r) ≡ onto es (readAll (length r) r)
+trace-onto {es} a r =
+    let n = length (spellAll es ++ r) in
+    let long : n ≡ length (spellAll es) + length r = length-append (spellAll es) r in
+    let most : length es ≤ length (spellAll es) = spelled-long es in
+    let left : n ≡ length es + (n - length es) = omega arith in
+    let rest : length r ≤ n - length es = omega arith in
+    all-onto a (n - length es) n r left ∙ ap (onto es) (all-enough (n - length es) (length r) r rest (omega arith))
