@@ -9,8 +9,6 @@ use crate::RefusalAt;
 
 /// The longest request file.
 pub const LONGEST_FILE: usize = 16_384;
-/// The longest trace that the audit program reads.
-pub const LONGEST_AUDIT: usize = 524_288;
 /// The records of the desk program's tables.
 pub const RECORDS: usize = 256;
 
@@ -101,9 +99,6 @@ pub fn order_text(trace: &[u8]) -> String {
 
 /// What the audit program prints.
 pub fn audit_text(trace: &[u8]) -> String {
-    if trace.len() > LONGEST_AUDIT {
-        return refusal_line(RefusalAt { number: 26, offset: 0 });
-    }
     let mut held = [0; TABLE_RECORDS];
     let mut released = [0; TABLE_RECORDS];
     match audit(trace, &mut held, &mut released) {

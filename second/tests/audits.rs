@@ -270,7 +270,6 @@ fn the_last_ticket_and_none_after_it() {
 fn the_call_takes_a_trace_of_any_length() {
     let mut trace = [1, 1, 2, 1, 5].to_vec();
     trace.extend([3, 1, 5].repeat(200_000));
-    assert!(trace.len() > 524_288);
     assert_eq!(held_after(&trace), [(5, 1)]);
     last_not_allowed(&[&trace[..], &[3, 1, 6]].concat(), 3);
 }

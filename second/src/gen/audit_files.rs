@@ -6,7 +6,7 @@ use super::sweep::{one_sweep, Floor};
 use super::world::World;
 use super::{damage, piece};
 use crate::desk::{MOST_BEGUN, MOST_RECORDS};
-use crate::programs::LONGEST_AUDIT;
+use crate::order::LONGEST_TRACE;
 
 /// The tables' records; a sweep and what is beside it take up to 16 of them.
 const RECORDS: [usize; 6] = [17, 40, 256, 4_095, MOST_RECORDS, MOST_RECORDS];
@@ -68,16 +68,17 @@ fn sweeps(rng: &mut Rng, floor: &mut Floor) {
     }
 }
 
-/// A trace at the limit of the program or one byte over it, or one of every ticket there is.
+/// A trace that ends about where a reader by the longest order's bytes would stop, once to three times, or one of every ticket.
 pub fn very_long(rng: &mut Rng) -> Vec<u8> {
     if rng.chance(50) {
         return every_ticket(rng);
     }
     let mut trace = [piece(1, &[1]), piece(2, &[1, 5]), piece(2, &[1, 200])].concat();
+    let end = LONGEST_TRACE * rng.between(1, 3) as usize;
     // Touches of record 5 take three bytes and those of record 200 four.
-    let odd = (LONGEST_AUDIT - trace.len()) % 3;
+    let odd = (end - trace.len()) % 3;
     trace.extend(piece(3, &[1, 200]).repeat(odd));
-    let touches = (LONGEST_AUDIT - trace.len()) / 3;
+    let touches = (end - trace.len()) / 3;
     trace.extend(piece(3, &[1, 5]).repeat(touches));
     match rng.below(3) {
         0 => trace.push(rng.some_byte()),

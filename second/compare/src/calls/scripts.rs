@@ -4,7 +4,6 @@ use super::{Call, Lent};
 use second::gen::damage::spell;
 use second::gen::rng::Rng;
 use second::gen::{audit_file, desk_file, order_file};
-use second::programs::LONGEST_AUDIT;
 
 /// What is lent at first, and the calls one after the other.
 pub struct Script {
@@ -170,7 +169,7 @@ fn of_files(rng: &mut Rng, file: Vec<u8>, trace: Vec<u8>) -> [Call; 3] {
 
 /// The check of a trace, and its text into a room that it may not fit.
 fn of_audit(rng: &mut Rng, trace: Vec<u8>) -> [Call; 2] {
-    let trace = short(rng, trace, LONGEST_AUDIT);
+    let trace = short(rng, trace, usize::MAX);
     let (held, released) = (length(rng, 4_096), length(rng, 4_096));
     [
         Call::AuditText { trace: trace.clone(), room: rng.place(20) },
