@@ -5,7 +5,6 @@ use Prim.Native.Nat.{ℕ}
 use Rattle.words.specs.Tests.{either, not-both}
 use Rattle.trace.specs.declared.Event.{Event}
 use Rattle.trace.specs.declared.Event.the-variants.{Started, Granted, Touched, Released, Finished}
-use Rattle.desk.specs.Limits.{seats}
 use Rattle.desk.specs.Answers.{Said, Rule}
 use Rattle.desk.specs.Step.{State, Outcome, outcome, about, ruled, beginStep, lockStep, touchStep, releaseStep, finishStep, kind, step}
 use Rattle.desk.specs.StepLaws.{about-ways, ruled-ways}

@@ -13,7 +13,7 @@ use lib.Seq.{drop-drop, length-take-le}
 use Rattle.words.specs.Tests.{pick}
 use Rattle.words.specs.Parts.{Bytes, bytes-rest, part-rest}
 use Rattle.trace.proofs.Reading as reading-type
-use Rattle.trace.specs.Answers.{number, ReadingSaid, event, end, no-event, readingSaid}
+use Rattle.trace.specs.Answers.{number, event, end, no-event, readingSaid}
 use Rattle.trace.specs.Events.{spell, readAt}
 use Rattle.trace.specs.EventLaws.{Whole, event-only}
 use Rattle.trace.specs.Traces.{readAll, all-event}

@@ -7,7 +7,7 @@ use mathlib.Core.List.{List, [], _∷_, _++_, reverseAux}
 use native.Mathlib.Omega.{arith}
 use borrow.Author.Tests.{eq-eqb, eqb-true, lt-leb, not-true, not-false}
 use lib.ListN.{length, getD}
-use Rattle.words.specs.Tests.{pick, either, clash, and-iff, which}
+use Rattle.words.specs.Tests.{pick, either, and-iff, which}
 use Rattle.words.specs.Word.{has}
 use Rattle.trace.specs.Limits.{limit, records}
 use Rattle.trace.specs.declared.Event.{Event}

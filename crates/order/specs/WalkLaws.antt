@@ -19,7 +19,6 @@ use Rattle.trace.specs.CauseLaws.{read-ended, fair-ranged}
 use Rattle.trace.specs.Traces.{spellAll, AllFair, spelled-some}
 use Rattle.trace.specs.History.{History, Touches, Some, now, ago}
 use Rattle.trace.specs.declared.Event.{Event}
-use Rattle.trace.specs.declared.Event.the-variants.{Started, Granted, Touched, Released, Finished}
 use Rattle.order.specs.Limits.{tickets}
 use Rattle.order.specs.Counting.{In}
 use Rattle.order.specs.Befores.{HasTouch}

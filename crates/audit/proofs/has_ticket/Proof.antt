@@ -1,6 +1,5 @@
 -- `audit::has_ticket` meets its contract: the test that led to each return decides `sits`.
 use Rattle.audit.proofs.Asking.{sits-live, sits-free}
-use borrow.Author.Needs.{needs}
 use Rattle.audit.proofs.has_ticket.Statement.{statement}
 use Rattle.audit.proofs.has_ticket.Tie as tie
 
