@@ -1,14 +1,7 @@
--- The trace check's answer as one number: a code in the upper 32 bits, the value 0 in the lower 32.
-use Prim.Native.Nat.{ℕ, _+_, _*_}
+-- The trace check's answer as one number; the offset of a refusal has a word of its own, so the value is 0.
+use Prim.Native.Nat.{ℕ}
 use Rattle.audit.specs.Answers.{AuditSaid, accepted, refused}
-
--- the same as saltlicker's, once more: that crate's calls do not belong in this archive
-abbrev pub coded : ℕ → ℕ → ℕ
-coded code value = code * 4294967296 + value
-
--- a lent offset of a wrong length
-abbrev pub wrongLength : ℕ
-wrongLength = coded 99 0
+use Rattle.saltlicker.specs.Answers.{coded}
 
 -- accepted, or a refusal's own number
 abbrev pub auditCode : AuditSaid → ℕ

@@ -6,8 +6,9 @@ use lib.ListN.{length}
 use Rattle.words.specs.Tests.{pick}
 use Rattle.audit.specs.Answers.{AuditSaid, accepted, refused, Call}
 use Rattle.audit.specs.Audit.{auditOf}
+use Rattle.saltlicker.specs.Answers.{wrongLength}
 use Rattle.saltlicker_audit.specs.Limits.{offsetWords}
-use Rattle.saltlicker_audit.specs.Answers.{wrongLength, auditCode}
+use Rattle.saltlicker_audit.specs.Answers.{auditCode}
 
 -- the answer, and both tables and the offset's word as they are left
 pub record AuditLeft : Type 0 where

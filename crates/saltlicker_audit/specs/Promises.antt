@@ -2,23 +2,23 @@
 use mathlib.Core.Path.{_≡_, refl, sym, ap, _∙_}
 use mathlib.Core.Bool.{not, cond}
 use mathlib.Core.List.{List, [], _∷_}
-use Prim.Native.Nat.{ℕ, _+_, _*_, _<_, _/_, _%_}
+use Prim.Native.Nat.{ℕ, _<_}
 use native.Mathlib.Omega.{arith}
-use borrow.Author.Tests.{eq-eqb, ne-eqb}
+use borrow.Author.Tests.{eq-eqb}
 use lib.Dec.{eqb}
 use lib.ListN.{length, getD}
 use Rattle.words.specs.Tests.{pick, either}
 use Rattle.words.specs.Parts.{Bytes}
 use Rattle.trace.specs.Limits.{records}
 use Rattle.trace.specs.Answers.{ReadingSaid}
-use Rattle.trace.specs.Causes.{NoNumber, cut-first, cut-second, cut-third, long-second, long-third, too-large, top-bit, ReadCause, no-kind, no-ticket, ticket-zero, no-record, record-over}
 use Rattle.trace.specs.Traces.{NoEvent, ended, unread, read-through}
 use Rattle.trace.specs.declared.Event.{Event}
 use Rattle.desk.specs.Step.{State}
 use Rattle.audit.specs.Answers.{AuditSaid, accepted, refused, Call}
 use Rattle.audit.specs.Audit.{Checked, allows, ending, check, checkFrom, auditOf}
+use Rattle.saltlicker.specs.Promises.{heard, heard-coded, low, low-read}
 use Rattle.saltlicker_audit.specs.Limits.{offsetWords}
-use Rattle.saltlicker_audit.specs.Answers.{coded, auditCode}
+use Rattle.saltlicker_audit.specs.Answers.{auditCode}
 use Rattle.saltlicker_audit.specs.Calls.{AuditLeft, leftAudit, offsetOf, auditCall}
 
 -- ---- one result
@@ -37,31 +37,18 @@ data Low : AuditSaid → Type 0 where
   accepts : Low accepted
   refuses : {k at : ℕ} → k < 99 → Low (refused k at)
 
-low-number : {k : ℕ} {l : List ℕ} → NoNumber k l → k < 99
-low-number cut-first = omega arith
-low-number (cut-second a) = omega arith
-low-number (cut-third a b) = omega arith
-low-number (long-second a) = omega arith
-low-number (long-third a b) = omega arith
-low-number (too-large a b c d) = omega arith
-low-number (top-bit a b c) = omega arith
-
-low-read : {k : ℕ} {l : List ℕ} → ReadCause k l → k < 99
-low-read (no-kind n) = omega arith
-low-read (no-ticket k n) = low-number n
-low-read (ticket-zero k f) = omega arith
-low-read (no-record k f n m) = low-number m
-low-read (record-over k f n g m) = omega arith
-
+-- by what is read after the last event
 low-ending : {l : List ℕ} {x : ReadingSaid} → NoEvent l x → (at : ℕ) → Low (ending x at)
 low-ending (ended e) at = accepts
 low-ending (unread c) at = refuses (low-read c)
 
+-- by events one after the other, and then that
 low-check : (es : List Event) (x : ReadingSaid) (at : ℕ) (st : State) → ((o : ℕ) → Low (ending x o)) → Low (check es x at st .says)
 unfolding check
 low-check [] x at st f = f at
 low-check (e ∷ es) x at st f = either (λ (c : Checked). Low (c .says)) (allows st e) (λ y. low-check es x _ _ f) (λ n. refuses (omega arith))
 
+-- of any bytes, over any tables
 low-audit : (trace h l : List ℕ) → Bytes trace → Low (auditOf trace h l .says)
 unfolding auditOf checkFrom
 low-audit trace h l by =
@@ -69,18 +56,16 @@ low-audit trace h l by =
     either (λ (c : Call). Low (c .says)) (not (eqb (length l) records)) (λ f. refuses (omega arith)) (λ f.
     low-check _ _ 0 _ (low-ending (read-through (length trace) trace (omega arith) by .stops))))
 
--- what `saltlicker_audit` says, by its number and the offset's word as it leaves it
-abbrev pub auditBy : ℕ → List ℕ → AuditSaid
-auditBy n a = cond (eqb (n / 4294967296) 209) accepted (refused (n / 4294967296) (getD a 0 0))
+-- what `saltlicker_audit` says, with the offset's word as it leaves it
+abbrev pub auditBy : List ℕ → ℕ → ℕ → AuditSaid
+auditBy a c v = cond (eqb c 209) accepted (refused c (getD a 0 0))
 
 -- is what the trace check says: accepted, or a refusal with its offset
 pub audit-heard : (trace h l a : List ℕ) → Bytes trace → length a ≡ offsetWords
-    → auditBy (auditCall trace h l a .says) (auditCall trace h l a .at) ≡ auditOf trace h l .says
-unfolding auditCall pick
+    → heard (auditBy (auditCall trace h l a .at)) (auditCall trace h l a .says) ≡ auditOf trace h l .says
+unfolding auditCall pick heard
 audit-heard trace h l a by e = rw (eq-eqb (length a) offsetWords e) (go (low-audit trace h l by))
   where
-    go : {x : AuditSaid} → Low x → auditBy (auditCode x) (offsetOf x a) ≡ x
+    go : {x : AuditSaid} → Low x → heard (auditBy (offsetOf x a)) (auditCode x) ≡ x
     go accepts = refl
-    go (refuses {k} {at} m) =
-        let code : coded k 0 / 4294967296 ≡ k = omega arith in
-        rw (code, ne-eqb k 209 (λ p. omega arith))
+    go (refuses {k} {at} m) = heard-coded (auditBy (at ∷ [])) k 0 (omega arith) ∙ low k 209 _ _ m (omega arith)

@@ -2,8 +2,8 @@
 ghost use mathlib.Core.Path.{_≡_};
 ghost use mathlib.Core.List.{[], _∷_};
 ghost use lib.ListN.{length};
+ghost use Rattle.saltlicker.specs.Answers.{coded};
 ghost use Rattle.saltlicker_audit.specs.Limits.{offsetWords};
-ghost use Rattle.saltlicker_audit.specs.Answers.{coded};
 ghost use Rattle.saltlicker_audit.specs.Calls.{leftAudit, auditCall};
 use audit::Verdict;
 
@@ -13,7 +13,7 @@ const OFFSET_WORDS: usize = 1;
 // A lent offset of a wrong length, as a code.
 const WRONG_LENGTH: u32 = 99;
 
-// A code and a value as one number, as in crate saltlicker.
+// A code and a value as one number.
 fn code_of(code: u32, value: u32) -> u64
     ensures { λ r. ⌜ r ≡ coded code value ⌝ }
 {

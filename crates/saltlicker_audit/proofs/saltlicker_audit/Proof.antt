@@ -11,8 +11,8 @@ use Rattle.audit.specs.Answers.{called}
 use Rattle.audit.specs.Audit.{auditOf}
 use Rattle.audit.specs.declared.Verdict.{Verdict}
 use Rattle.audit.specs.declared.Verdict.the-variants.{Accepted, WrongLength, Unread, NotAllowed}
+use Rattle.saltlicker.specs.Answers.{coded}
 use Rattle.saltlicker_audit.specs.Limits.{offsetWords}
-use Rattle.saltlicker_audit.specs.Answers.{coded}
 use Rattle.saltlicker_audit.specs.Calls.{leftAudit, auditCall}
 use borrow.Author.Needs.{needs}
 use Rattle.saltlicker_audit.proofs.saltlicker_audit.Statement.{statement}
