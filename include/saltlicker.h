@@ -1,5 +1,5 @@
 /* Saltlicker's calls for C and C++. `bin/library` proves and builds them in target/staticlib: link libsaltlicker.a (x86-64
-   Linux), for the trace check libsaltlicker_audit.a, and for the texts at the end libsaltlicker_text.a, in any company.
+   Linux), for the trace check libsaltlicker_audit.a, and for the texts at the end libsaltlicker_text.a, alone or together.
    examples/viaduct.c uses most of them.
 
    Every slice is a pointer and a length in elements, not in bytes. A pointer may not be null; where the length is 0 it is not
@@ -8,8 +8,8 @@
    otherwise.
 
    The calls allocate nothing and keep nothing from one to the next: a desk is its two tables and its words, and can be stored
-   and brought back as those. Threads that share a desk must take turns. The order and the two texts want 256 KiB of stack, more
-   than some small threads have; the other calls a few. */
+   and brought back as those. Threads that share a desk must take turns. The order, and the texts of a desk and of an order,
+   want 256 KiB of stack, more than some small threads have; the text of a trace check 40; the other calls a few. */
 #ifndef SALTLICKER_H
 #define SALTLICKER_H
 
