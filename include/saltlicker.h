@@ -52,7 +52,7 @@ static inline uint32_t saltlicker_value(saltlicker_answer answer) { return (uint
    40 event not allowed: the desk could not have written it then */
 enum {
     SALTLICKER_UNKNOWN_KIND = 22, /* a request or an event of no such kind, whatever else is wrong with it */
-    SALTLICKER_WRONG_LENGTH = 99, /* desk, requests, answers, event or at of another length than its call asks; nothing is changed */
+    SALTLICKER_WRONG_LENGTH = 99, /* desk, requests, answers, event or at of another length than asked; nothing is changed */
 
     SALTLICKER_STARTED = 101,  /* value: the ticket */
     SALTLICKER_GRANTED = 102,
