@@ -93,7 +93,6 @@ enum {
     SALTLICKER_FILE_BYTES = 16384,   /* the longest request file */
     SALTLICKER_DESK_TEXT = 242971,   /* room for the text of any request file */
     SALTLICKER_ORDER_TEXT = 5403,    /* room for the text of any trace's order */
-    SALTLICKER_AUDIT_BYTES = 524288, /* the longest trace that has a text of its check; the check itself has no limit */
     SALTLICKER_AUDIT_TEXT = 53       /* room for the text of any trace's check */
 };
 

@@ -36,7 +36,6 @@ pub const TRACE_BYTES: usize = 65536;
 pub const FILE_BYTES: usize = 16384;
 pub const DESK_TEXT: usize = 242971;
 pub const ORDER_TEXT: usize = 5403;
-pub const AUDIT_BYTES: usize = 524288;
 pub const AUDIT_TEXT: usize = 53;
 
 /// The code of an answer: a refusal's number, or one of the names above.
