@@ -55,11 +55,23 @@ static void order(size_t bytes, size_t words, size_t places, uint32_t code) {
     free(trace), free(table), free(list);
 }
 
+/* `offset` is where a refusal must be; an offset that nothing is said of must stay. */
+static void audit(size_t bytes, size_t n, size_t m, size_t at_words, uint32_t code, uint64_t offset) {
+    uint8_t *trace = slice(bytes);
+    uint32_t *held = slice(n * sizeof *held), *released = slice(m * sizeof *released);
+    uint64_t *at = slice(at_words * sizeof *at), lent = at_words > 0 ? at[0] : 0;
+    memset(trace, SALTLICKER_BEGIN, bytes);
+    expect("audit", saltlicker_audit(trace, bytes, held, n, released, m, at, at_words), code);
+    if (at_words > 0 && at[0] != (code < SALTLICKER_WRONG_LENGTH ? offset : lent)) failed = 1;
+    free(trace), free(held), free(released), free(at);
+}
+
 static void text(size_t bytes, size_t room) {
     uint8_t *input = slice(bytes), *out = slice(room);
     memset(input, SALTLICKER_BEGIN, bytes);
     if (saltlicker_desk_text(input, bytes, out, room) > room) failed = 1;
     if (saltlicker_order_text(input, bytes, out, room) > room) failed = 1;
+    if (saltlicker_audit_text(input, bytes, out, room) > room) failed = 1;
     free(input), free(out);
 }
 
@@ -76,6 +88,11 @@ int main(void) {
     read_and_write(5, 3, SALTLICKER_UNKNOWN_KIND, 24), read_and_write(6, 2, SALTLICKER_WRONG_LENGTH, SALTLICKER_WRITTEN);
     order(0, 2048, 256, SALTLICKER_ORDERED), order(65536, 2048, 256, SALTLICKER_ORDERED), order(3, 2048, 256, 20);
     order(65537, 2048, 256, 26), order(65537, 2047, 256, 25), order(0, 2049, 256, 25), order(0, 2048, 0, 25);
-    text(0, 0), text(0, 8), text(3, 5), text(16385, 16), text(65537, 3);
+    audit(0, 4096, 4096, 1, SALTLICKER_ACCEPTED, 0), audit(2, 4096, 4096, 1, SALTLICKER_ACCEPTED, 0);
+    audit(3, 4096, 4096, 1, 20, 2), audit(4, 4096, 4096, 1, 40, 2), audit(70000, 4096, 4096, 1, 40, 2);
+    audit(4, 4095, 4096, 1, 1, 0), audit(4, 4096, 4097, 1, 1, 0), audit(4, 0, 0, 1, 1, 0), audit(4, 4, 4, 1, 1, 0);
+    audit(4, 4096, 4096, 0, SALTLICKER_WRONG_LENGTH, 0), audit(4, 4096, 4096, 2, SALTLICKER_WRONG_LENGTH, 0);
+    audit(4, 0, 4096, 2, SALTLICKER_WRONG_LENGTH, 0);
+    text(0, 0), text(0, 8), text(3, 5), text(16385, 16), text(65537, 3), text(524289, 3);
     return failed;
 }

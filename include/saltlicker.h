@@ -1,5 +1,6 @@
 /* Saltlicker's calls for C and C++. `bin/library` proves and builds them in target/staticlib: link libsaltlicker.a (x86-64
-   Linux), and for the two texts at the end libsaltlicker_text.a. examples/viaduct.c uses most of them.
+   Linux), for the trace check libsaltlicker_audit.a, and for the texts at the end libsaltlicker_text.a, alone or together.
+   examples/viaduct.c uses most of them.
 
    Every slice is a pointer and a length in elements, not in bytes. A pointer may not be null; where the length is 0 it is not
    read through. Two slices of one call may not overlap where either is written. Within these two rules no call reads or writes
@@ -7,8 +8,8 @@
    otherwise.
 
    The calls allocate nothing and keep nothing from one to the next: a desk is its two tables and its words, and can be stored
-   and brought back as those. Threads that share a desk must take turns. The order and the two texts want 256 KiB of stack, more
-   than some small threads have; the other calls a few. */
+   and brought back as those. Threads that share a desk must take turns. The order, and the texts of a desk and of an order,
+   want 256 KiB of stack, more than some small threads have; the text of a trace check 40; the other calls a few. */
 #ifndef SALTLICKER_H
 #define SALTLICKER_H
 
@@ -46,10 +47,12 @@ static inline uint32_t saltlicker_value(saltlicker_answer answer) { return (uint
    25 table or list of wrong length
    26 trace over 65,536 bytes
    27 ticket over 256
-   28 the befores close a ring */
+   28 the befores close a ring
+   Of a trace check, also 1 for tables of another length than 4,096, and 20 to 23:
+   40 event not allowed: the desk could not have written it then */
 enum {
     SALTLICKER_UNKNOWN_KIND = 22, /* a request or an event of no such kind, whatever else is wrong with it */
-    SALTLICKER_WRONG_LENGTH = 99, /* desk, requests, answers or event of another length than its call asks; nothing is changed */
+    SALTLICKER_WRONG_LENGTH = 99, /* desk, requests, answers, event or at of another length than asked; nothing is changed */
 
     SALTLICKER_STARTED = 101,  /* value: the ticket */
     SALTLICKER_GRANTED = 102,
@@ -64,7 +67,8 @@ enum {
     SALTLICKER_FOUND = 205,    /* value: the event's length in bytes */
     SALTLICKER_END = 206,      /* no event is left */
     SALTLICKER_WRITTEN = 207,  /* value: the event's length in bytes */
-    SALTLICKER_ORDERED = 208   /* value: how many tickets are listed */
+    SALTLICKER_ORDERED = 208,  /* value: how many tickets are listed */
+    SALTLICKER_ACCEPTED = 209
 };
 
 /* Kinds of request, and of event: 1 started, 2 granted, 3 touched, 4 released, 5 finished. */
@@ -88,7 +92,8 @@ enum {
     SALTLICKER_TRACE_BYTES = 65536,  /* the longest trace that has an order */
     SALTLICKER_FILE_BYTES = 16384,   /* the longest request file */
     SALTLICKER_DESK_TEXT = 242971,   /* room for the text of any request file */
-    SALTLICKER_ORDER_TEXT = 5403     /* room for the text of any trace */
+    SALTLICKER_ORDER_TEXT = 5403,    /* room for the text of any trace's order */
+    SALTLICKER_AUDIT_TEXT = 53       /* room for the text of any trace's check */
 };
 
 /* Fills both tables with zeros and the desk with a record of free seats: CLEARED. Refused 1, the tables stay and the desk is
@@ -120,12 +125,23 @@ saltlicker_answer saltlicker_write(uint8_t *room, size_t room_bytes, uint32_t ki
 saltlicker_answer saltlicker_order(const uint8_t *trace, size_t trace_bytes, uint32_t *table, size_t table_words,
                                    uint16_t *list, size_t list_places);
 
+/* Checks a trace: ACCEPTED if a desk of 4,096 records could have written it from cleared tables, each started change on the
+   lowest free seat, or refused 20 to 23 or 40, with the offset of the first byte of the first faulty event in at[0]. Both tables
+   must have SALTLICKER_RECORDS words and are left as after the last event allowed, whatever they held before; refused 1, they
+   stay and at[0] is 0. `at` is one word, of 64 bits since the trace may have any length; ACCEPTED leaves it. In
+   libsaltlicker_audit.a. */
+saltlicker_answer saltlicker_audit(const uint8_t *trace, size_t trace_bytes, uint32_t *held, size_t held_words,
+                                   uint32_t *released, size_t released_words, uint64_t *at, size_t at_words);
+
 /* What the desk program prints of a request file, at the front of out, and how long it is; as much of it as there is room for.
    No zero byte ends it. */
 size_t saltlicker_desk_text(const uint8_t *input, size_t input_bytes, uint8_t *out, size_t out_bytes);
 
 /* What the order program prints of a trace, in the same way. */
 size_t saltlicker_order_text(const uint8_t *trace, size_t trace_bytes, uint8_t *out, size_t out_bytes);
+
+/* What the audit program prints of a trace, in the same way. */
+size_t saltlicker_audit_text(const uint8_t *trace, size_t trace_bytes, uint8_t *out, size_t out_bytes);
 
 #ifdef __cplusplus
 }

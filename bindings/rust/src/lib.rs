@@ -1,4 +1,5 @@
-//! Saltlicker's proved lock desk: ask a [`Desk`], keep the events of its replies as a trace, and work out its [`order`].
+//! Saltlicker's proved lock desk: ask a [`Desk`], keep the events of its replies as a trace, work out its [`order`]; [`audit`]
+//! a trace that another desk wrote.
 //!
 //! The viaduct: a sweep at seat 0 passes the deck (record 5); an editor who takes the deck in its wake must wait for the lower
 //! road (record 6) until the sweep has passed that too.
@@ -40,6 +41,7 @@
 //! # Ok::<_, Box<dyn std::error::Error>>(())
 //! ```
 
+mod audit;
 mod desk;
 pub mod names;
 mod order;
@@ -49,9 +51,10 @@ mod request;
 mod text;
 mod trace;
 
+pub use audit::{audit, audit_and_tables, Tables};
 pub use desk::{Desk, Reply};
 pub use order::{order, order_and_befores, Befores};
 pub use refusal::{Fault, Refusal};
 pub use request::{Answer, Request};
-pub use text::{desk_text, order_text};
+pub use text::{audit_text, desk_text, order_text};
 pub use trace::{append_event, events, read_event, write_event, Event, Events};

@@ -17,6 +17,7 @@ pub const FOUND: u32 = 205;
 pub const END: u32 = 206;
 pub const WRITTEN: u32 = 207;
 pub const ORDERED: u32 = 208;
+pub const ACCEPTED: u32 = 209;
 
 pub const BEGIN: u32 = 1;
 pub const LOCK: u32 = 2;
@@ -35,6 +36,7 @@ pub const TRACE_BYTES: usize = 65536;
 pub const FILE_BYTES: usize = 16384;
 pub const DESK_TEXT: usize = 242971;
 pub const ORDER_TEXT: usize = 5403;
+pub const AUDIT_TEXT: usize = 53;
 
 /// The code of an answer: a refusal's number, or one of the names above.
 pub fn code(answer: u64) -> u32 {

@@ -7,7 +7,7 @@ use std::fmt::{Display, Formatter, Result};
 #[derive(Clone, Copy, Debug, PartialEq, Eq, Hash)]
 pub struct Refusal(pub u32);
 
-/// A refusal of a trace, and the first byte of the event that caused it; 0 for 25, 26 and 28.
+/// A refusal of a trace, and the first byte of the event that caused it; 0 for 1, 25, 26 and 28.
 #[derive(Clone, Copy, Debug, PartialEq, Eq, Hash)]
 pub struct Fault {
     pub refusal: Refusal,
@@ -35,6 +35,7 @@ impl Refusal {
             26 => "trace over 65,536 bytes",
             27 => "ticket over 256",
             28 => "the befores close a ring",
+            40 => "event the desk could not have written then",
             99 => "slice of wrong length",
             _ => "no listed refusal",
         }

@@ -1,6 +1,6 @@
-//! What the two programs print, without running them.
+//! What the programs print, without running them.
 
-use crate::names::{DESK_TEXT, ORDER_TEXT};
+use crate::names::{AUDIT_TEXT, DESK_TEXT, ORDER_TEXT};
 use crate::raw;
 
 /// What the desk program prints of a request file.
@@ -11,6 +11,11 @@ pub fn desk_text(input: &[u8]) -> String {
 /// What the order program prints of a trace.
 pub fn order_text(trace: &[u8]) -> String {
     text(ORDER_TEXT, |out| raw::order_text(trace, out))
+}
+
+/// What the audit program prints of a trace.
+pub fn audit_text(trace: &[u8]) -> String {
+    text(AUDIT_TEXT, |out| raw::audit_text(trace, out))
 }
 
 fn text(room: usize, print: impl FnOnce(&mut [u8]) -> usize) -> String {

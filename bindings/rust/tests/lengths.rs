@@ -101,6 +101,27 @@ fn order_wants_table_and_list_of_their_lengths() {
 }
 
 #[test]
+fn audit_wants_one_word_for_the_offset() {
+    for words in [0, 2, 3] {
+        for (n, m) in [(RECORDS, RECORDS), (4, 5)] {
+            let (mut held, mut released, mut at) = (vec![7; n], vec![7; m], vec![7; words]);
+            codes(raw::audit(&[1, 2], &mut held, &mut released, &mut at), WRONG_LENGTH);
+            assert!(untouched(&[&held, &released]) && at.iter().all(|&word| word == 7));
+        }
+    }
+}
+
+#[test]
+fn audit_wants_tables_for_every_record() {
+    for (n, m) in [(0, 0), (4, 4), (4095, 4096), (4096, 4095), (4097, 4096), (4096, 4097)] {
+        let (mut held, mut released, mut at) = (vec![7; n], vec![7; m], [7]);
+        codes(raw::audit(&[1, 1, 9], &mut held, &mut released, &mut at), 1);
+        assert!(untouched(&[&held, &released]));
+        assert_eq!(at, [0]);
+    }
+}
+
+#[test]
 fn texts_take_what_fits() {
     let whole = b"order 0\n";
     for room in 0..12 {
@@ -110,5 +131,9 @@ fn texts_take_what_fits() {
         assert_eq!(out[..length], whole[..length]);
         assert!(out[length..].iter().all(|&byte| byte == 7));
         assert_eq!(raw::desk_text(&[], &mut out), length);
+        let accepted = b"accepted\n";
+        let length = raw::audit_text(&[], &mut out);
+        assert_eq!(length, room.min(accepted.len()));
+        assert_eq!(out[..length], accepted[..length]);
     }
 }

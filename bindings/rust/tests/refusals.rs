@@ -98,7 +98,7 @@ fn held_and_the_waits_change_nothing_either() {
 
 #[test]
 fn every_refusal_says_what_it_means() {
-    for number in (1..=8).chain(20..=28).chain([99]) {
+    for number in (1..=8).chain(20..=28).chain([40, 99]) {
         let text = Refusal(number).to_string();
         assert!(text.starts_with(&format!("refused {number}: ")));
         assert!(!text.contains("no listed"), "{text}");

@@ -7,7 +7,7 @@ use Rattle.order.specs.Answers.{OrderSaid, ordered}
 abbrev pub coded : ℕ → ℕ → ℕ
 coded code value = code * 4294967296 + value
 
--- a lent desk, request, answer or event of a wrong length
+-- a lent desk, request, answer, event or offset of a wrong length
 abbrev pub wrongLength : ℕ
 wrongLength = coded 99 0
 

@@ -85,12 +85,12 @@ unfoldable pub heard : {A : Type 0} → (ℕ → ℕ → A) → ℕ → A
 heard f n = f (n / 4294967296) (n % 4294967296)
 
 -- of a number that a code and a value make, it makes of them
-heard-coded : {A : Type 0} (f : ℕ → ℕ → A) (c v : ℕ) → v < 4294967296 → heard f (coded c v) ≡ f c v
+pub heard-coded : {A : Type 0} (f : ℕ → ℕ → A) (c v : ℕ) → v < 4294967296 → heard f (coded c v) ≡ f c v
 unfolding heard
 heard-coded f c v h = let e = coded-back c v h in rw (e .0, e .1)
 
 -- a refusal's number is below 99, and every other code above
-low : {A : Type 0} (c n : ℕ) (x y : A) → c < 99 → 99 < n → cond (eqb c n) x y ≡ y
+pub low : {A : Type 0} (c n : ℕ) (x y : A) → c < 99 → 99 < n → cond (eqb c n) x y ≡ y
 low c n x y h g = rw (ne-eqb c n (λ e. omega arith))
 
 -- what `saltlicker_clear` says, by code and value
@@ -182,7 +182,7 @@ low-number (long-third a b) = omega arith
 low-number (too-large a b c d) = omega arith
 low-number (top-bit a b c) = omega arith
 
-low-read : {k : ℕ} {l : List ℕ} → ReadCause k l → k < 99
+pub low-read : {k : ℕ} {l : List ℕ} → ReadCause k l → k < 99
 low-read (no-kind n) = omega arith
 low-read (no-ticket k n) = low-number n
 low-read (ticket-zero k f) = omega arith

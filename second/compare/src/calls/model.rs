@@ -35,7 +35,7 @@ pub fn word_and_number(answer: u64) -> (&'static str, u32) {
         206 => ("end", 0),
         207 => ("written", 0),
         208 => ("order", 0),
-        301 => ("accepted", 0),
+        209 => ("accepted", 0),
         _ => ("unknown", 0),
     }
 }
@@ -171,7 +171,7 @@ fn audit(trace: &[u8], held: &mut [u32], released: &mut [u32], at: &mut [u64]) -
         return WRONG_LENGTH;
     };
     match second::audit::audit(trace, held, released) {
-        Ok(()) => numbered(301, 0),
+        Ok(()) => numbered(209, 0),
         Err(refusal) => {
             *at = refusal.offset as u64;
             numbered(refusal.number, 0)
