@@ -45,7 +45,7 @@ pub fn order_file(seed: u64, index: u64) -> Vec<u8> {
 pub fn audit_file(seed: u64, index: u64) -> Vec<u8> {
     let mut rng = Rng::of_file(seed, index);
     // Traces of many thousand events take long, and few of them say all.
-    if rng.below(200) == 0 {
+    if rng.below(300) == 0 {
         return audit_files::very_long(&mut rng);
     }
     let floor = audit_files::run(&mut rng);

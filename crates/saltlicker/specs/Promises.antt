@@ -15,8 +15,7 @@ use Rattle.words.specs.Parts.{Bytes}
 use Rattle.trace.specs.Limits.{limit}
 use Rattle.trace.specs.Answers.{ReadingSaid, event, end, no-event, WritingSaid, written, unwritten}
 use Rattle.trace.specs.Events.{spell, fair, readAt, Wrote, writeAt}
-use Rattle.trace.specs.Causes.{NoNumber, cut-first, cut-second, cut-third, long-second, long-third, too-large, top-bit, ReadCause, no-kind, no-ticket, ticket-zero, no-record, record-over}
-use Rattle.trace.specs.CauseLaws.{read-refused}
+use Rattle.trace.specs.CauseLaws.{no-event-number, read-refused}
 use Rattle.trace.specs.WriteLaws.{Puts, unfair, full, done, puts}
 use Rattle.trace.specs.declared.Event.{Event}
 use Rattle.trace.specs.declared.Event.the-variants.{Started, Granted, Touched, Released, Finished}
@@ -172,23 +171,6 @@ row-back (Finished t) = refl
 abbrev pub readBy : List ℕ → ℕ → ℕ → ReadingSaid
 readBy w c v = cond (eqb c 205) (event (eventBy w) v) (cond (eqb c 206) end (no-event c))
 
--- refusals 20 to 23
-low-number : {k : ℕ} {l : List ℕ} → NoNumber k l → k < 99
-low-number cut-first = omega arith
-low-number (cut-second a) = omega arith
-low-number (cut-third a b) = omega arith
-low-number (long-second a) = omega arith
-low-number (long-third a b) = omega arith
-low-number (too-large a b c d) = omega arith
-low-number (top-bit a b c) = omega arith
-
-pub low-read : {k : ℕ} {l : List ℕ} → ReadCause k l → k < 99
-low-read (no-kind n) = omega arith
-low-read (no-ticket k n) = low-number n
-low-read (ticket-zero k f) = omega arith
-low-read (no-record k f n m) = low-number m
-low-read (record-over k f n g m) = omega arith
-
 -- is what the reading says, event and length
 pub read-heard : (rest w : List ℕ) → Bytes rest → length w ≡ eventWords → heard (readBy (readCall rest w .event)) (readCall rest w .says) ≡ readAt rest
 unfolding readCall pick heard
@@ -198,7 +180,7 @@ read-heard rest w by e = rw (eq-eqb (length w) eventWords e) (go (readAt rest) r
     go (event f n) p = heard-coded (readBy (row f)) 205 n (read-small rest by p) ∙ ap (λ (y : Event). event y n) (row-back f)
     go end p = refl
     go (no-event k) p =
-        let m : k < 99 = low-read (read-refused rest by k .0 p) in
+        let m : k < 99 = omega (arith, no-event-number (read-refused rest by k .0 p)) in
         heard-coded (readBy w) k 0 (omega arith) ∙ low k 205 _ _ m (omega arith) ∙ low k 206 _ _ m (omega arith)
 
 -- what `saltlicker_write` says
@@ -232,7 +214,7 @@ orderBy c v = cond (eqb c 208) (ordered v) (OrderSaid.refused c v)
 low-order : {trace table list : List ℕ} {k at : ℕ} → OrderCause trace table list k at → k < 99
 low-order (wrong-length n) = omega arith
 low-order (too-long f l) = omega arith
-low-order (unread f l b c) = low-read c
+low-order (unread f l b c) = omega (arith, no-event-number c)
 low-order (far-ticket f l b r t) = omega arith
 low-order (ring f l b r) = omega arith
 

@@ -21,13 +21,13 @@ abbrev pub leftAudit : ℕ → List ℕ → List ℕ → List ℕ → AuditLeft
 leftAudit r h l a = record { says = r; held = h; released = l; at = a }
 
 -- the offset of a refusal; the word stays where the trace is accepted
-abbrev pub offsetOf : AuditSaid → List ℕ → List ℕ
-offsetOf accepted a = a
-offsetOf (refused k at) a = at ∷ []
+abbrev pub offsetPut : AuditSaid → List ℕ → List ℕ
+offsetPut accepted a = a
+offsetPut (refused k at) a = at ∷ []
 
 -- the trace check's answer as a number, with its offset
 abbrev pub auditedAs : Call → List ℕ → AuditLeft
-auditedAs c a = leftAudit (auditCode (c .says)) (c .held) (c .released) (offsetOf (c .says) a)
+auditedAs c a = leftAudit (auditCode (c .says)) (c .held) (c .released) (offsetPut (c .says) a)
 
 -- the call: 99 and nothing changed for an offset that is not one word, else the trace check
 unfoldable pub auditCall : List ℕ → List ℕ → List ℕ → List ℕ → AuditLeft

@@ -11,15 +11,16 @@ use Rattle.words.specs.Tests.{pick, either}
 use Rattle.words.specs.Parts.{Bytes}
 use Rattle.trace.specs.Limits.{records}
 use Rattle.trace.specs.Answers.{ReadingSaid}
+use Rattle.trace.specs.CauseLaws.{no-event-number}
 use Rattle.trace.specs.Traces.{NoEvent, ended, unread, read-through}
 use Rattle.trace.specs.declared.Event.{Event}
 use Rattle.desk.specs.Step.{State}
 use Rattle.audit.specs.Answers.{AuditSaid, accepted, refused, Call}
 use Rattle.audit.specs.Audit.{Checked, allows, ending, check, checkFrom, auditOf}
-use Rattle.saltlicker.specs.Promises.{heard, heard-coded, low, low-read}
+use Rattle.saltlicker.specs.Promises.{heard, heard-coded, low}
 use Rattle.saltlicker_audit.specs.Limits.{offsetWords}
 use Rattle.saltlicker_audit.specs.Answers.{auditCode}
-use Rattle.saltlicker_audit.specs.Calls.{AuditLeft, leftAudit, offsetOf, auditCall}
+use Rattle.saltlicker_audit.specs.Calls.{AuditLeft, leftAudit, offsetPut, auditCall}
 
 -- ---- one result
 
@@ -40,7 +41,7 @@ data Low : AuditSaid → Type 0 where
 -- by what is read after the last event
 low-ending : {l : List ℕ} {x : ReadingSaid} → NoEvent l x → (at : ℕ) → Low (ending x at)
 low-ending (ended e) at = accepts
-low-ending (unread c) at = refuses (low-read c)
+low-ending (unread {k} c) at = refuses {k = k} (omega (arith, no-event-number c))
 
 -- by events one after the other, and then that
 low-check : (es : List Event) (x : ReadingSaid) (at : ℕ) (st : State) → ((o : ℕ) → Low (ending x o)) → Low (check es x at st .says)
@@ -66,6 +67,6 @@ pub audit-heard : (trace h l a : List ℕ) → Bytes trace → length a ≡ offs
 unfolding auditCall pick heard
 audit-heard trace h l a by e = rw (eq-eqb (length a) offsetWords e) (go (low-audit trace h l by))
   where
-    go : {x : AuditSaid} → Low x → heard (auditBy (offsetOf x a)) (auditCode x) ≡ x
+    go : {x : AuditSaid} → Low x → heard (auditBy (offsetPut x a)) (auditCode x) ≡ x
     go accepts = refl
     go (refuses {k} {at} m) = heard-coded (auditBy (at ∷ [])) k 0 (omega arith) ∙ low k 209 _ _ m (omega arith)

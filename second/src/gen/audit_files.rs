@@ -70,7 +70,7 @@ fn sweeps(rng: &mut Rng, floor: &mut Floor) {
 
 /// A trace that ends about where a reader by the longest order's bytes would stop, once to three times, or one of every ticket.
 pub fn very_long(rng: &mut Rng) -> Vec<u8> {
-    if rng.chance(50) {
+    if rng.chance(20) {
         return every_ticket(rng);
     }
     let mut trace = [piece(1, &[1]), piece(2, &[1, 5]), piece(2, &[1, 200])].concat();
