@@ -1,18 +1,15 @@
 -- The trace check: every event must be one that the desk could have written then.
 use Prim.Native.Nat.{ℕ, suc, _+_}
-use mathlib.Core.Path.{_≡_, ap, _∙_}
-use mathlib.Core.Bool.{Bool, true, false, not, _&&_}
-use mathlib.Core.Logic.{⊎-elim}
-use mathlib.Core.List.{List, [], _∷_, _++_}
-use native.Mathlib.Omega.{arith}
+use mathlib.Core.Bool.{Bool, not, _&&_}
+use mathlib.Core.List.{List, [], _∷_}
 use lib.Dec.{eqb}
-use lib.ListN.{length, getD, length-append}
-use Rattle.words.specs.Tests.{pick, which}
+use lib.ListN.{length, getD}
+use Rattle.words.specs.Tests.{pick}
 use Rattle.trace.specs.Limits.{records}
 use Rattle.trace.specs.Answers.{ReadingSaid, event, end, no-event}
 use Rattle.trace.specs.Events.{spell}
 use Rattle.trace.specs.Causes.{ticketOf}
-use Rattle.trace.specs.Traces.{readAll, spellAll}
+use Rattle.trace.specs.Traces.{readAll}
 use Rattle.trace.specs.declared.Event.{Event}
 use Rattle.trace.specs.declared.Event.the-variants.{Started, Granted, Touched, Released, Finished}
 use Rattle.desk.specs.Limits.{seats}
@@ -124,33 +121,3 @@ auditOf trace h l =
     pick (not (eqb (length h) records)) (call (refused 1 0) h l)
     (pick (not (eqb (length l) records)) (call (refused 1 0) h l)
     (tables (checkFrom trace (clearing seats h l .left))))
-
--- the check of events es from an offset on, whatever events follow them and whatever is read then
-pub data Joined (es : List Event) (at : ℕ) (st : State) : Type 0 where
-  -- all of es are allowed: it goes on with what follows, from what the desk then holds
-  all-allowed : (left : State) → ((ds : List Event) (x : ReadingSaid) → check (es ++ ds) x at st ≡ check ds x (at + length (spellAll es)) left) → Joined es at st
-  -- one is not: it is refused
-  one-barred : (n : ℕ) (left : State) → ((ds : List Event) (x : ReadingSaid) → check (es ++ ds) x at st ≡ checked (refused 40 n) left) → Joined es at st
-
--- ---- laws
-
--- an event that is allowed, and one that is not
-check-allowed : (e : Event) (es : List Event) (x : ReadingSaid) (at : ℕ) (st : State) → allows st e ≡ true → check (e ∷ es) x at st ≡ check es x (at + length (spell e)) (answered st e .left)
-unfolding check pick
-check-allowed e es x at st may = rw may
-
-check-barred : (e : Event) (es : List Event) (x : ReadingSaid) (at : ℕ) (st : State) → allows st e ≡ false → check (e ∷ es) x at st ≡ checked (refused 40 at) st
-unfolding check pick
-check-barred e es x at st not-may = rw not-may
-
--- the check of events one after the other is that of the first, and then of what follows
-pub joined : (es : List Event) (at : ℕ) (st : State) → Joined es at st
-joined [] at st = all-allowed st (λ ds x. let here : at ≡ at + 0 = omega arith in ap (λ (n : ℕ). check ds x n st) here)
-joined (e ∷ es) at st =
-    ⊎-elim (λ may. go may (joined es (at + length (spell e)) (answered st e .left))) (λ not-may. one-barred at st (λ ds x. check-barred e (es ++ ds) x at st not-may)) (which (allows st e))
-  where
-    go : allows st e ≡ true → Joined es (at + length (spell e)) (answered st e .left) → Joined (e ∷ es) at st
-    go may (all-allowed left h) =
-        let further : at + length (spell e) + length (spellAll es) ≡ at + length (spell e ++ spellAll es) = omega (arith, length-append (spell e) (spellAll es)) in
-        all-allowed left (λ ds x. check-allowed e (es ++ ds) x at st may ∙ h ds x ∙ ap (λ (n : ℕ). check ds x n left) further)
-    go may (one-barred n left h) = one-barred n left (λ ds x. check-allowed e (es ++ ds) x at st may ∙ h ds x)

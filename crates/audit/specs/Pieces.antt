@@ -1,13 +1,13 @@
 -- A trace in parts: after each part the check goes on with what follows, and so says and leaves what it does of the whole.
 use Prim.Native.Nat.{ℕ, _+_, _<_, _≤_}
 use mathlib.Core.Path.{_≡_, refl, sym, ap, ap₂, subst, _∙_}
-use mathlib.Core.Logic.{_≢_}
+use mathlib.Core.Logic.{_≢_, ⊎-elim}
 use mathlib.Core.Bool.{Bool, true, false}
 use mathlib.Core.List.{List, [], _∷_, _++_, append-nil, append-assoc}
 use native.Mathlib.Omega.{arith}
 use lib.ListN.{length, drop, length-append}
 use lib.Seq.{drop-append-seam}
-use Rattle.words.specs.Tests.{pick, clash}
+use Rattle.words.specs.Tests.{pick, clash, which}
 use Rattle.words.specs.Parts.{Bytes}
 use Rattle.trace.specs.Limits.{eventBytes}
 use Rattle.trace.specs.Answers.{ReadingSaid, event, end, no-event}
@@ -17,7 +17,7 @@ use Rattle.trace.specs.Traces.{Read, readAll, spellAll, AllFair, NoEvent, ended
 use Rattle.trace.specs.declared.Event.{Event}
 use Rattle.desk.specs.Step.{State}
 use Rattle.audit.specs.Answers.{AuditSaid, accepted, refused}
-use Rattle.audit.specs.Audit.{answered, allows, Checked, checked, ending, check, checkFrom, Joined, all-allowed, one-barred, joined}
+use Rattle.audit.specs.Audit.{answered, allows, Checked, checked, ending, check, checkFrom}
 
 -- the same said, of an offset that is n further on
 abbrev pub later : ℕ → AuditSaid → AuditSaid
@@ -28,6 +28,13 @@ later n (refused k at) = refused k (n + at)
 abbrev pub moved : ℕ → Checked → Checked
 moved n c = checked (later n (c .says)) (c .left)
 
+-- the check of events es from an offset on, whatever events follow them and whatever is read then
+data Joined (es : List Event) (at : ℕ) (st : State) : Type 0 where
+  -- all of es are allowed: it goes on with what follows, from what the desk then holds
+  all-allowed : (left : State) → ((ds : List Event) (x : ReadingSaid) → check (es ++ ds) x at st ≡ check ds x (at + length (spellAll es)) left) → Joined es at st
+  -- one is not: it is refused
+  one-barred : (n : ℕ) (left : State) → ((ds : List Event) (x : ReadingSaid) → check (es ++ ds) x at st ≡ checked (refused 40 n) left) → Joined es at st
+
 -- how the check of a part l goes, whatever bytes follow it
 data Part (l : List ℕ) (st : State) : Checked → Type 0 where
   -- all its events are allowed, and no event stands in its rest: with that and what follows the check goes on
@@ -37,6 +44,27 @@ data Part (l : List ℕ) (st : State) : Checked → Type 0 where
   stopped : (at : ℕ) (left : State) → ((m : List ℕ) → checkFrom (l ++ m) st ≡ checked (refused 40 at) left) → Part l st (checked (refused 40 at) left)
 
 -- ---- laws
+
+-- an event that is allowed, and one that is not
+check-allowed : (e : Event) (es : List Event) (x : ReadingSaid) (at : ℕ) (st : State) → allows st e ≡ true → check (e ∷ es) x at st ≡ check es x (at + length (spell e)) (answered st e .left)
+unfolding check pick
+check-allowed e es x at st may = rw may
+
+check-barred : (e : Event) (es : List Event) (x : ReadingSaid) (at : ℕ) (st : State) → allows st e ≡ false → check (e ∷ es) x at st ≡ checked (refused 40 at) st
+unfolding check pick
+check-barred e es x at st not-may = rw not-may
+
+-- the check of events one after the other is that of the first, and then of what follows
+joined : (es : List Event) (at : ℕ) (st : State) → Joined es at st
+joined [] at st = all-allowed st (λ ds x. let here : at ≡ at + 0 = omega arith in ap (λ (n : ℕ). check ds x n st) here)
+joined (e ∷ es) at st =
+    ⊎-elim (λ may. go may (joined es (at + length (spell e)) (answered st e .left))) (λ not-may. one-barred at st (λ ds x. check-barred e (es ++ ds) x at st not-may)) (which (allows st e))
+  where
+    go : allows st e ≡ true → Joined es (at + length (spell e)) (answered st e .left) → Joined (e ∷ es) at st
+    go may (all-allowed left h) =
+        let further : at + length (spell e) + length (spellAll es) ≡ at + length (spell e ++ spellAll es) = omega (arith, length-append (spell e) (spellAll es)) in
+        all-allowed left (λ ds x. check-allowed e (es ++ ds) x at st may ∙ h ds x ∙ ap (λ (n : ℕ). check ds x n left) further)
+    go may (one-barred n left h) = one-barred n left (λ ds x. check-allowed e (es ++ ds) x at st may ∙ h ds x)
 
 -- the check of the same events from n further on
 ending-moved : (x : ReadingSaid) (n at : ℕ) → ending x (n + at) ≡ later n (ending x at)
