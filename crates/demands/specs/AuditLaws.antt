@@ -22,13 +22,7 @@ use Rattle.demands.specs.Run.{called, recordOf, Moment, next}
 -- ---- the lowest of some seats that passes a test
 
 module _ (f : Seat → Bool) where
-  -- it is at most their number
-  pub lowest-most : (l : List Seat) → lowest f l ≤ length l
-  unfolding lowest
-  lowest-most [] = omega arith
-  lowest-most (v ∷ l) = let k = lowest-most l in either (λ n. n ≤ suc (length l)) (f v) (λ e. omega arith) (λ e. omega arith)
-
-  -- if it is below that, the seat there passes
+  -- if it is below their number, the seat there passes
   pub lowest-passes : (l : List Seat) → lowest f l < length l → f (getD l (lowest f l) freeSeat) ≡ true
   unfolding lowest
   lowest-passes [] = λ h. absurd (omega arith)
@@ -112,20 +106,13 @@ started-says (refused k) t r p = absurd (clash (cc))
 
 -- ---- the request that would write an event
 
--- it is by the seat, and about the event's record
+-- it is by the seat
 pub seat-asked : (e : Event) (s : ℕ) → seatOf (requestFor e s) ≡ s
 seat-asked (Started t) s = refl
 seat-asked (Granted t r) s = refl
 seat-asked (Touched t r) s = refl
 seat-asked (Released t r) s = refl
 seat-asked (Finished t) s = refl
-
-pub record-asked : (e : Event) (s : ℕ) → recordOf (requestFor e s) ≡ recordIn e
-record-asked (Started t) s = refl
-record-asked (Granted t r) s = refl
-record-asked (Touched t r) s = refl
-record-asked (Released t r) s = refl
-record-asked (Finished t) s = refl
 
 -- a request by no seat of n is refused
 unseated : (n : ℕ) (st : State) (s : ℕ) (e : Event) → n ≤ s → (k : ℕ) × (step n st (requestFor e s) .says ≡ refused k)
