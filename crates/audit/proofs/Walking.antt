@@ -2,7 +2,6 @@
 use Prim.Native.Nat.{ℕ, zero, suc, _+_, _-_, _<_, _≤_}
 use mathlib.Core.Path.{_≡_, refl, sym, ap, _∙_}
 use mathlib.Core.Bool.{true, false, not}
-use mathlib.Core.Logic.{⊎-elim}
 use mathlib.Core.List.{List, [], _∷_}
 use native.Mathlib.Omega.{arith}
 use borrow.Author.Tests.{not-true, not-false}
@@ -12,6 +11,7 @@ use lib.ListN.{length, take, drop, length-drop}
 use lib.Seq.{drop-drop, length-take-le}
 use Rattle.words.specs.Tests.{pick}
 use Rattle.words.specs.Parts.{Bytes, bytes-rest, part-rest}
+use Rattle.trace.proofs.Ended.{at-end}
 use Rattle.trace.proofs.Reading as reading-type
 use Rattle.trace.specs.Answers.{number, event, end, no-event, readingSaid}
 use Rattle.trace.specs.Events.{spell, readAt}
@@ -20,7 +20,7 @@ use Rattle.trace.specs.Traces.{readAll, all-event}
 use Rattle.trace.specs.declared.Event.{Event}
 use Rattle.trace.specs.declared.Fault.{Fault}
 use Rattle.trace.specs.declared.Reading.{Reading}
-use Rattle.trace.specs.declared.Reading.the-variants.{Found, End, Unread as NoEvent}
+use Rattle.trace.specs.declared.Reading.the-variants.{Found, Unread as NoEvent}
 use Rattle.desk.specs.Step.{State, state}
 use Rattle.desk.specs.declared.Desk.{Desk}
 use Rattle.audit.specs.Answers.{refused}
@@ -82,16 +82,8 @@ module _ {trace h l : List ℕ} {whole : Checked} {d : Desk} {at : ℕ} (w : Wal
   walking-unread {f} e = sym (rest-fails (w .fuel) (drop at trace) at (number f) (state h l d) (here ∙ ap readingSaid e)) ∙ w .same
 
   -- nothing is left
-  at-end : OneOf (1 ∷ 2 ∷ []) (tagOf reading-type.the-type got) → OneOf (0 ∷ 1 ∷ []) (tagOf reading-type.the-type got) → got ≡ End
-  at-end = go got
-    where
-      go : (r : Reading) → OneOf (1 ∷ 2 ∷ []) (tagOf reading-type.the-type r) → OneOf (0 ∷ 1 ∷ []) (tagOf reading-type.the-type r) → r ≡ End
-      go (Found e n) k l = absurd (⊎-elim (λ q. omega arith) (λ q. omega arith) k)
-      go End k l = refl
-      go (NoEvent f) k l = absurd (⊎-elim (λ q. omega arith) (λ q. omega arith) l)
-
   pub walking-end : OneOf (1 ∷ 2 ∷ []) (tagOf reading-type.the-type got) → OneOf (0 ∷ 1 ∷ []) (tagOf reading-type.the-type got) → progressed (record { verdict = Accepted; desk = d }) h l ≡ whole
-  walking-end k j = sym (rest-ends (w .fuel) (drop at trace) at (state h l d) (here ∙ ap readingSaid (at-end k j))) ∙ w .same
+  walking-end k j = sym (rest-ends (w .fuel) (drop at trace) at (state h l d) (here ∙ ap readingSaid (at-end got k j))) ∙ w .same
 
   -- an event reads
   module _ {e : Event} {n : ℕ} (is : got ≡ Found e n) where

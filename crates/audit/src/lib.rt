@@ -51,8 +51,7 @@ pub fn audit_of(trace: &[u8], held: &mut [u32], released: &mut [u32]) -> Verdict
     let opened = desk::clear(held, released);
     let start = opened.desk;
     let checked = audit_part(trace, held, released, start);
-    let verdict = checked.verdict;
-    verdict
+    checked.verdict
 }
 
 // Checks a part of a trace from what the desk holds before it, event by event; offsets count from the part's front.

@@ -14,14 +14,13 @@ use Rattle.trace.specs.History.{History}
 use Rattle.desk.specs.declared.Seat.{Seat}
 use Rattle.desk.specs.declared.Request.{Request}
 use Rattle.desk.specs.declared.Request.the-variants.{Begin, Lock, Touch, Release, Finish}
-use Rattle.desk.specs.Answers.{started, refused, granted, held, released, cleared}
+use Rattle.desk.specs.Answers.{started, refused, granted, held, released}
 use Rattle.desk.specs.Step.{Outcome, outcome, freeSeat, seatAt, fitting, beginStep, clearing, ruled, about, grant, withLock, lockRule, lockStep, holdRule, touchStep, releaseStep, leftWake, gone, finishStep, seatOf, kind, step}
 use Rattle.desk.specs.StepLaws.{about-ways, lock-ways, hold-ways}
 use Rattle.desk.specs.Promises.{clearing-frees}
-use Rattle.demands.specs.Run.{Moment, noted, next, afterAll, run}
+use Rattle.demands.specs.Run.{Moment, noted, next}
 use Rattle.demands.specs.Views.{woken}
 use Rattle.demands.specs.Keeps.{Good, keeps}
-use Rattle.demands.specs.Runs.{good-start}
 
 -- ---- by the history
 
@@ -64,10 +63,6 @@ pub record Tallied (m : Moment) : Type 0 where
   pub live : liveSeats (m .state .desk .seats) + endedIn (m .history) ≡ begunIn (m .history)
 
 -- ---- laws of the count of live seats
-
--- by the tally as many seats are live as changes are
-pub live-seats : {m : Moment} → Tallied m → liveSeats (m .state .desk .seats) ≡ liveIn (m .history)
-live-seats T = omega (arith, T .live)
 
 -- a live seat counts 1
 pub one-live : (v : Seat) → v .live ≡ true → liveOne v ≡ 1
@@ -188,13 +183,3 @@ module _ {n : ℕ} {m : Moment} (G : Good n m) (T : Tallied m) where
 pub tallied-start : (n : ℕ) (h l : List ℕ) → Tallied (record { state = clearing n h l .left; history = [] })
 unfolding begunIn endedIn
 tallied-start n h l = record { begun = rw (clearing-frees n h l) refl; live = rw (clearing-frees n h l) (let k = live-none n in omega arith) }
-
--- and whatever is asked keeps it
-pub tallied-after : {n : ℕ} (m : Moment) (qs : List Request) → Good n m → Tallied m → Tallied (afterAll n m qs)
-unfolding afterAll
-tallied-after m [] G T = T
-tallied-after m (q ∷ qs) G T = tallied-after (next _ m q) qs (keeps G q) (counts G T q .tally)
-
--- so every run has it
-pub tallied-run : (n : ℕ) (h l : List ℕ) (qs : List Request) → clearing n h l .says ≡ cleared → Tallied (run n h l qs)
-tallied-run n h l qs c = tallied-after (record { state = clearing n h l .left; history = [] }) qs (good-start n h l c) (tallied-start n h l)

@@ -1,7 +1,6 @@
 -- The loop over a trace: at an offset the rows say what the history so far says, and the walk from there is the walk over the trace.
 use mathlib.Core.Path.{_≡_, refl, sym, ap, _∙_}
 use mathlib.Core.List.{List, [], _∷_}
-use mathlib.Core.Logic.{⊎-elim}
 use Prim.Native.Nat.{ℕ, zero, suc, _+_, _-_, _<_, _≤_}
 use native.Mathlib.Omega.{arith}
 use borrow.Author.Tests.{lt-ltb, le-ltb}
@@ -11,6 +10,7 @@ use types.Run.{OneOf}
 use denote.Enum.Declared.{tagOf}
 use Rattle.words.specs.Tests.{pick}
 use Rattle.words.specs.Parts.{Bytes, bytes-rest, part-rest}
+use Rattle.trace.proofs.Ended.{at-end}
 use Rattle.trace.proofs.Reading as reading-type
 use Rattle.trace.specs.Limits.{records}
 use Rattle.trace.specs.Answers.{ReadingSaid, readingSaid}
@@ -21,7 +21,7 @@ use Rattle.trace.specs.History.{History}
 use Rattle.trace.specs.declared.Event.{Event}
 use Rattle.trace.specs.declared.Fault.{Fault}
 use Rattle.trace.specs.declared.Reading.{Reading}
-use Rattle.trace.specs.declared.Reading.the-variants.{Found, End, Unread as NoEvent}
+use Rattle.trace.specs.declared.Reading.the-variants.{Found, Unread as NoEvent}
 use Rattle.order.specs.Limits.{tickets}
 use Rattle.order.specs.Answers.{called}
 use Rattle.order.specs.Counting.{In}
@@ -74,19 +74,10 @@ module _ {trace table₀ list₀ touchers befores touching table list : List ℕ
   pub walking-unread : {f : Fault} → got ≡ NoEvent f → called (Unread f at) table list ≡ orderBy (walk trace) table₀ list₀
   walking-unread e = rw (goes (ap readingSaid e), w .table-same, w .list-same)
 
-  -- nothing is left
-  at-end : OneOf (1 ∷ 2 ∷ []) (tagOf reading-type.the-type got) → OneOf (0 ∷ 1 ∷ []) (tagOf reading-type.the-type got) → got ≡ End
-  at-end = go got
-    where
-      go : (r : Reading) → OneOf (1 ∷ 2 ∷ []) (tagOf reading-type.the-type r) → OneOf (0 ∷ 1 ∷ []) (tagOf reading-type.the-type r) → r ≡ End
-      go (Found e n) k l = absurd (⊎-elim (λ q. omega arith) (λ q. omega arith) k)
-      go End k l = refl
-      go (NoEvent f) k l = absurd (⊎-elim (λ q. omega arith) (λ q. omega arith) l)
-
-  -- so the order is settled
+  -- nothing is left, so the order is settled
   pub walking-end : (a : Answer) {table′ list′ : List ℕ} → OneOf (1 ∷ 2 ∷ []) (tagOf reading-type.the-type got) → OneOf (0 ∷ 1 ∷ []) (tagOf reading-type.the-type got)
       → called a table′ list′ ≡ settled (hasBefore befores) (hasTicket touching) → called a table′ list′ ≡ orderBy (walk trace) table₀ list₀
-  walking-end a k l s = s ∙ settled-rows (w .rows) ∙ sym (ap (λ (v : Walked). orderBy v table₀ list₀) (goes (ap readingSaid (at-end k l))))
+  walking-end a k l s = s ∙ settled-rows (w .rows) ∙ sym (ap (λ (v : Walked). orderBy v table₀ list₀) (goes (ap readingSaid (at-end got k l))))
 
   -- an event reads
   module _ {e : Event} {n : ℕ} (is : got ≡ Found e n) where

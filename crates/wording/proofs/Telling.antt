@@ -1,7 +1,6 @@
 -- The loop over a trace that is told: what is put so far, with what is told from the offset on, is what is told of the whole trace.
 use mathlib.Core.Path.{_≡_, refl, sym, ap, _∙_}
 use mathlib.Core.List.{List, [], _∷_}
-use mathlib.Core.Logic.{⊎-elim}
 use Prim.Native.Nat.{ℕ, zero, suc, _+_, _-_, _<_, _≤_}
 use native.Mathlib.Omega.{arith}
 use lib.ListN.{length, take, drop, length-drop}
@@ -9,6 +8,7 @@ use lib.Seq.{drop-drop}
 use types.Run.{OneOf}
 use denote.Enum.Declared.{tagOf}
 use Rattle.words.specs.Parts.{Bytes, bytes-rest, part-rest}
+use Rattle.trace.proofs.Ended.{at-end}
 use Rattle.trace.proofs.Reading as reading-type
 use Rattle.trace.specs.Answers.{number, ReadingSaid, readingSaid}
 use Rattle.trace.specs.Events.{readAt}
@@ -16,7 +16,7 @@ use Rattle.trace.specs.EventLaws.{Whole, event-only}
 use Rattle.trace.specs.declared.Event.{Event}
 use Rattle.trace.specs.declared.Fault.{Fault}
 use Rattle.trace.specs.declared.Reading.{Reading}
-use Rattle.trace.specs.declared.Reading.the-variants.{Found, End, Unread}
+use Rattle.trace.specs.declared.Reading.the-variants.{Found, Unread}
 use Rattle.text.specs.Places.{placed, puts}
 use Rattle.text.specs.PlaceLaws.{puts-join}
 use Rattle.text.specs.Lines.{refusedAt}
@@ -57,18 +57,10 @@ module _ {trace text₀ text : List ℕ} {at end : ℕ} (w : Telling trace text�
   telling-unread {f} e n p = (rw n at p) ∙ goes (ap readingSaid e)
 
   -- nothing is left
-  at-end : OneOf (1 ∷ 2 ∷ []) (tagOf reading-type.the-type got) → OneOf (0 ∷ 1 ∷ []) (tagOf reading-type.the-type got) → got ≡ End
-  at-end = go got
-    where
-      go : (r : Reading) → OneOf (1 ∷ 2 ∷ []) (tagOf reading-type.the-type r) → OneOf (0 ∷ 1 ∷ []) (tagOf reading-type.the-type r) → r ≡ End
-      go (Found e n) k l = absurd (⊎-elim (λ q. omega arith) (λ q. omega arith) k)
-      go End k l = refl
-      go (Unread f) k l = absurd (⊎-elim (λ q. omega arith) (λ q. omega arith) l)
-
   pub telling-end : OneOf (1 ∷ 2 ∷ []) (tagOf reading-type.the-type got) → OneOf (0 ∷ 1 ∷ []) (tagOf reading-type.the-type got)
       → placed text end ≡ puts (eventsTold trace) (placed text₀ 0)
   unfolding puts
-  telling-end k l = goes (ap readingSaid (at-end k l))
+  telling-end k l = goes (ap readingSaid (at-end got k l))
 
   -- an event reads
   module _ {e : Event} {n : ℕ} (is : got ≡ Found e n) where
