@@ -96,8 +96,8 @@ fn locks() {
 fn refusals() {
     file(b"# Seat 31 may begin, 32 gives 2\n", b"\x01\x1f\x01\x20");
     file(
-        b"# Record 255 of 256 may be locked, 256 gives 3\n",
-        b"\x01\x00\x02\x00\xff\x01\x02\x00\x80\x02",
+        b"# Record 255 of 256 may be locked, 256 and 2,097,151 give 3\n",
+        b"\x01\x00\x02\x00\xff\x01\x02\x00\x80\x02\x02\x00\xff\xff\x7f",
     );
     file(
         b"# BEGIN on a live seat: 4; others on a free seat: 5\n",
@@ -109,11 +109,11 @@ fn refusals() {
     );
 }
 
-// Numbers: the seats of five BEGIN requests, and the tickets of traces.
+// Numbers: the seats of seven BEGIN requests, and the tickets of traces.
 fn numbers() {
     file(
-        b"# 127, 128, 16,383, 16,384 and 65,535 are no seats\n",
-        b"\x01\x7f\x01\x80\x01\x01\xff\x7f\x01\x80\x80\x01\x01\xff\xff\x03",
+        b"# 127, 128, 16,383, 16,384, 65,535, 65,536 and 2,097,151 are no seats\n",
+        b"\x01\x7f\x01\x80\x01\x01\xff\x7f\x01\x80\x80\x01\x01\xff\xff\x03\x01\x80\x80\x04\x01\xff\xff\x7f",
     );
     trace(
         b"# 127 is 7F, 128 is 80 01\n",
@@ -122,9 +122,14 @@ fn numbers() {
     trace(b"# 16,383 is FF 7F\n", b"\x01\xff\x7f");
     trace(b"# 16,384 is 80 80 01\n", b"\x01\x80\x80\x01");
     trace(b"# 65,535 is FF FF 03\n", b"\x01\xff\xff\x03");
+    trace(b"# 65,536 is 80 80 04\n", b"\x01\x80\x80\x04");
+    trace(b"# 2,097,151 is FF FF 7F\n", b"\x01\xff\xff\x7f");
     file(b"# 80 gives 20\n", b"\x01\x80");
     file(b"# 80 00 gives 21\n", b"\x01\x80\x00");
-    file(b"# 80 80 04 gives 21\n", b"\x01\x80\x80\x04");
+    file(
+        b"# 2,097,152 would be 80 80 80 01 and gives 21\n",
+        b"\x01\x80\x80\x80\x01",
+    );
 }
 
 // Faults after good requests: their lines first, then the fault, and no order.
@@ -158,6 +163,7 @@ fn orders() {
     trace(b"# Ticket over 256: 27\n", b"\x03\x80\x02\x05\x01\x81\x02");
     trace(b"# Ticket 0: 23\n", b"\x01\x01\x01\x00");
     trace(b"# Record 4,096: 23\n", b"\x03\x01\x80\x20");
+    trace(b"# Record 65,536: 23\n", b"\x03\x01\x80\x80\x04");
 }
 
 // One byte more than the limits of a request file and of a trace.

@@ -90,9 +90,12 @@ table =
     ∷ spells 16383 (0xFF ∷ 0x7F ∷ [])
     ∷ spells 16384 (0x80 ∷ 0x80 ∷ 0x01 ∷ [])
     ∷ spells 65535 (0xFF ∷ 0xFF ∷ 0x03 ∷ [])
+    ∷ spells 65536 (0x80 ∷ 0x80 ∷ 0x04 ∷ [])
+    ∷ spells 2097151 (0xFF ∷ 0xFF ∷ 0x7F ∷ [])
     ∷ spells-none (0x80 ∷ []) 20
     ∷ spells-none (0x80 ∷ 0x00 ∷ []) 21
-    ∷ spells-none (0x80 ∷ 0x80 ∷ 0x04 ∷ []) 21
+    -- not marked P: 2,097,152 takes four bytes
+    ∷ spells-none (0x80 ∷ 0x80 ∷ 0x80 ∷ 0x01 ∷ []) 21
     -- empty trace: order 0
     ∷ orders-none []
     -- not marked P: each kind of event, and no other
@@ -115,4 +118,4 @@ empty-trace t l f =
 -- every case of the table holds
 pub cases : All table
 unfolding afterAll pick fitting clearing beginStep ruled about setBit lockRule withLock lockStep holdRule releaseStep gone finishStep step has with without within spellNumber judge readThird readSecond readNumber asTicket asRecord readTicket afterTicket readPair ofTicket ofPair byKind readAt
-cases = ((refl, refl), ((refl, refl), ((refl, refl), ((refl, refl), ((refl, refl), ((refl, refl), ((refl, refl), ((refl, refl), ((refl, refl), ((refl, refl), ((refl, refl), ((refl, refl), ((refl, refl), ((refl, refl), (refl, (refl, (refl, (empty-trace, ((refl, refl), ((refl, refl), ((refl, refl), ((refl, refl), ((refl, refl), (refl, (refl, tt)))))))))))))))))))))))))
+cases = ((refl, refl), ((refl, refl), ((refl, refl), ((refl, refl), ((refl, refl), ((refl, refl), ((refl, refl), ((refl, refl), ((refl, refl), ((refl, refl), ((refl, refl), ((refl, refl), ((refl, refl), ((refl, refl), ((refl, refl), ((refl, refl), (refl, (refl, (refl, (empty-trace, ((refl, refl), ((refl, refl), ((refl, refl), ((refl, refl), ((refl, refl), (refl, (refl, tt)))))))))))))))))))))))))))

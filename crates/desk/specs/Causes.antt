@@ -43,7 +43,7 @@ pub data Cause (n : ℕ) (st : State) (q : Request) : ℕ → Type 0 where
   live-seat : Begins q → seatAt (st .desk) (seatOf q) .live ≡ true → Cause n st q 4
   -- 5: other request on a free seat
   free-seat : ¬ Begins q → seatAt (st .desk) (seatOf q) .live ≡ false → Cause n st q 5
-  -- 6: BEGIN with 65,535 or more begun
+  -- 6: BEGIN with 2,097,151 or more begun
   too-many : Begins q → limit ≤ st .desk .begun → Cause n st q 6
   -- 7: TOUCH or RELEASE, held bit clear
   not-held : {a : ℕ} → Holding q a → has (getD (st .held) a 0) (seatOf q) ≡ false → Cause n st q 7

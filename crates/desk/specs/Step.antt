@@ -90,7 +90,7 @@ begunAt d s =
       begun = d .begun + 1;
     }
 
--- refused on a live seat, or with 65,535 or more begun; else started, with the ticket
+-- refused on a live seat, or with 2,097,151 or more begun; else started, with the ticket
 unfoldable pub beginStep : State → ℕ → Outcome
 beginStep st s =
     pick (seatAt (st .desk) s .live) (outcome (refused 4) st)

@@ -6,7 +6,7 @@ use libc::STDOUT_FILENO;
 const HELD: usize = order::LONGEST + 1;
 
 // As many bytes as always suffice for the text: `textBytes` of wording's specs/Telling.antt.
-const TEXT: usize = 720934;
+const TEXT: usize = 10 * order::LONGEST + 38;
 
 fn main() {
     let mut trace = [0u8; HELD];

@@ -16,7 +16,7 @@ use Rattle.trace.specs.Limits.{limit, records, eventBytes}
 use Rattle.trace.specs.Answers.{value, no-value, end, no-event, unwritten}
 use Rattle.trace.specs.Numbers.{spellNumber, readNumber}
 use Rattle.trace.specs.Events.{spell, fair, fairTicket, fairPair, asTicket, asRecord, readTicket, afterTicket, readPair, no-pair, ofTicket, ofPair, byKind, readAt, Wrote, writeAt}
-use Rattle.trace.specs.Causes.{Front, NoNumber, cut-first, cut-second, cut-third, long-second, long-third, too-large, top-bit, KnownKind, WithRecord, ReadCause, no-kind, no-ticket, ticket-zero, no-record, record-over, ticketOf, recordOf, Ranged, WriteCause, zero-ticket, large-ticket, large-record, no-room}
+use Rattle.trace.specs.Causes.{Front, NoNumber, cut-first, cut-second, cut-third, long-second, long-third, top-bit, KnownKind, WithRecord, ReadCause, no-kind, no-ticket, ticket-zero, no-record, record-over, ticketOf, recordOf, Ranged, WriteCause, zero-ticket, large-ticket, large-record, no-room}
 use Rattle.trace.specs.NumberLaws.{number-back, number-none, NumberSeen, bad, number-seen}
 use Rattle.trace.specs.EventLaws.{fair-ticket, fair-pair, EventSeen, nothing, refused, event-seen, KindSeen, single, double, other, known, kind-seen, number-long}
 use Rattle.trace.specs.WriteLaws.{Puts, unfair, full, done, puts, put-unfair, put-full}
@@ -69,7 +69,6 @@ no-number (cut-second a) = (omega arith, omega arith)
 no-number (cut-third a b) = (omega arith, omega arith)
 no-number (long-second a) = (omega arith, omega arith)
 no-number (long-third a b) = (omega arith, omega arith)
-no-number (too-large a b c d) = (omega arith, omega arith)
 no-number (top-bit a b c) = (omega arith, omega arith)
 
 pub no-event-number : {k : ℕ} {l : List ℕ} → ReadCause k l → (20 ≤ k) × (k ≤ 23)
@@ -90,7 +89,6 @@ none-more (cut-second a) d r = absurd (d refl)
 none-more (cut-third a b) d r = absurd (d refl)
 none-more (long-second a) d r = long-second a
 none-more (long-third a b) d r = long-third a b
-none-more (too-large a b c h) d r = too-large a b c h
 none-more (top-bit a b c) d r = top-bit a b c
 
 pub cause-more : {k : ℕ} {l : List ℕ} → ReadCause k l → k ≢ 20 → (r : List ℕ) → ReadCause k (l ++ r)
@@ -107,7 +105,6 @@ number-cut-short (cut-second a) e = omega arith
 number-cut-short (cut-third a b) e = omega arith
 number-cut-short (long-second a) e = absurd (omega arith)
 number-cut-short (long-third a b) e = absurd (omega arith)
-number-cut-short (too-large a b c h) e = absurd (omega arith)
 number-cut-short (top-bit a b c) e = absurd (omega arith)
 
 pub cut-short : {k : ℕ} {l : List ℕ} → ReadCause k l → k ≡ 20 → length l < eventBytes
@@ -140,16 +137,16 @@ read-refused l by k = (λ e. taken (subst (λ r. EventSeen l r) e (event-seen l 
     taken (refused c) = c
 
 -- an event is fair exactly when its ticket and record are in their ranges
-both : (t r : ℕ) → (fairPair t r ≡ true) ↔ Ranged t r
+both : (t r : ℕ) → (fairPair t r ≡ true) ↔ Ranged limit t r
 both t r = (
   λ f. let h = fair-pair t r .0 f in let g = fair-ticket t .0 (h .0) in record { some = g .1; most = g .0; few = h .1 },
   λ h. fair-pair t r .1 (fair-ticket t .1 (h .most, h .some), h .few),
 )
 
-alone : (t : ℕ) → (fairTicket t ≡ true) ↔ Ranged t 0
+alone : (t : ℕ) → (fairTicket t ≡ true) ↔ Ranged limit t 0
 alone t = (λ f. let g = fair-ticket t .0 f in record { some = g .1; most = g .0; few = omega arith }, λ h. fair-ticket t .1 (h .most, h .some))
 
-pub fair-ranged : (e : Event) → (fair e ≡ true) ↔ Ranged (ticketOf e) (recordOf e)
+pub fair-ranged : (e : Event) → (fair e ≡ true) ↔ Ranged limit (ticketOf e) (recordOf e)
 fair-ranged (Started t) = alone t
 fair-ranged (Granted t r) = both t r
 fair-ranged (Touched t r) = both t r
@@ -176,7 +173,7 @@ write-refused e room k = (go (puts (fair e) (spell e) room), cause)
     go (full f p) h = let x : 24 ≡ k = cc in subst (λ k. WriteCause k e room) x (no-room (fair-ranged e .0 f) p)
     go (done f p) h = absurd (clash (cc))
 
-    not-fair : ¬ Ranged (ticketOf e) (recordOf e) → writeAt e room .says ≡ unwritten 23
+    not-fair : ¬ Ranged limit (ticketOf e) (recordOf e) → writeAt e room .says ≡ unwritten 23
     not-fair n = ap (λ (w : Wrote). w .says) (sym (put-unfair (fair e) (spell e) room refl (not-iff (fair e) .1 (λ f. n (fair-ranged e .0 f)))))
 
     cause : {k : ℕ} → WriteCause k e room → writeAt e room .says ≡ unwritten k

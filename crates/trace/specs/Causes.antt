@@ -1,5 +1,5 @@
 -- Refusals 20 to 24: one sentence a cause. The first fault from the left decides, and a number is judged for 20 and 21 before 23.
-use Prim.Native.Nat.{ℕ, _+_, _-_, _*_, _<_, _≤_}
+use Prim.Native.Nat.{ℕ, _<_, _≤_}
 use mathlib.Core.Path.{_≡_}
 use mathlib.Core.Logic.{_≢_}
 use mathlib.Core.List.{List, [], _∷_, _++_}
@@ -27,9 +27,7 @@ pub data NoNumber : ℕ → List ℕ → Type 0 where
   long-second : {a : ℕ} {l : List ℕ} → 128 ≤ a → NoNumber 21 (a ∷ 0 ∷ l)
   -- 21: not shortest, the last of three groups is 0
   long-third : {a b : ℕ} {l : List ℕ} → 128 ≤ a → 128 ≤ b → NoNumber 21 (a ∷ b ∷ 0 ∷ l)
-  -- 21: over 65,535, as only a number of three groups can be
-  too-large : {a b c : ℕ} {l : List ℕ} → 128 ≤ a → 128 ≤ b → c < 128 → limit < a - 128 + 128 * (b - 128) + 16384 * c → NoNumber 21 (a ∷ b ∷ c ∷ l)
-  -- 21: third byte with top bit
+  -- 21: third byte with top bit, as every number over 2,097,151 has it
   top-bit : {a b c : ℕ} {l : List ℕ} → 128 ≤ a → 128 ≤ b → 128 ≤ c → NoNumber 21 (a ∷ b ∷ c ∷ l)
 
 -- kinds 1 to 5
@@ -71,19 +69,19 @@ recordOf (Touched t r) = r
 recordOf (Released t r) = r
 recordOf (Finished t) = 0
 
--- ticket 1 to 65,535, record 0 to 4,095
-pub record Ranged (t r : ℕ) : Type 0 where
+-- ticket 1 to the largest, record 0 to 4,095
+pub record Ranged (largest t r : ℕ) : Type 0 where
   pub some : t ≢ 0
-  pub most : t ≤ limit
+  pub most : t ≤ largest
   pub few : r < records
 
 -- an event cannot be written at the front of a room, and the refusal
 pub data WriteCause : ℕ → Event → List ℕ → Type 0 where
   -- 23: ticket 0
   zero-ticket : {e : Event} {room : List ℕ} → ticketOf e ≡ 0 → WriteCause 23 e room
-  -- 23: ticket over 65,535
+  -- 23: ticket over 2,097,151
   large-ticket : {e : Event} {room : List ℕ} → limit < ticketOf e → WriteCause 23 e room
   -- 23: record over 4,095
   large-record : {e : Event} {room : List ℕ} → records ≤ recordOf e → WriteCause 23 e room
   -- 24: after 23, event longer than the room left
-  no-room : {e : Event} {room : List ℕ} → Ranged (ticketOf e) (recordOf e) → length room < length (spell e) → WriteCause 24 e room
+  no-room : {e : Event} {room : List ℕ} → Ranged limit (ticketOf e) (recordOf e) → length room < length (spell e) → WriteCause 24 e room

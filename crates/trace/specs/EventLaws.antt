@@ -70,7 +70,7 @@ pub data Forward : ReadingSaid → Type 0 where
 
 -- ---- laws: what fairness says
 
--- ticket 1 to 65,535
+-- ticket 1 to 2,097,151
 pub fair-ticket : (t : ℕ) → (fairTicket t ≡ true) ↔ ((t ≤ limit) × (t ≢ 0))
 fair-ticket t = (
   λ e. let h = and-iff (leb t limit) (not (eqb t 0)) .0 e in (leb-true t limit (h .0), eqb-false t 0 (not-true (eqb t 0) (h .1))),

@@ -23,7 +23,7 @@ spell (Touched t r) = 3 ∷ spellNumber t ++ spellNumber r
 spell (Released t r) = 4 ∷ spellNumber t ++ spellNumber r
 spell (Finished t) = 5 ∷ spellNumber t
 
--- ticket 1 to 65,535
+-- ticket 1 to 2,097,151
 abbrev pub fairTicket : ℕ → Bool
 fairTicket t = leb t limit && not (eqb t 0)
 

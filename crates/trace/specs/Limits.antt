@@ -1,9 +1,9 @@
 -- The paper's limits of numbers, and how long an event is at most.
 use Prim.Native.Nat.{ℕ}
 
--- the largest number, and so the largest ticket
+-- the largest number, all that three groups hold, and so the largest ticket
 abbrev pub limit : ℕ
-limit = 65535
+limit = 2097151
 
 -- how many records there may be: 0 to 4,095
 abbrev pub records : ℕ

@@ -14,7 +14,7 @@ use Rattle.words.specs.Parts.{Bytes}
 use Rattle.trace.specs.Limits.{limit}
 use Rattle.trace.specs.Answers.{NumberSaid, value, no-value}
 use Rattle.trace.specs.Numbers.{spellNumber, readNumber, readSecond, readThird, judge}
-use Rattle.trace.specs.Causes.{NoNumber, cut-first, cut-second, cut-third, long-second, long-third, too-large, top-bit}
+use Rattle.trace.specs.Causes.{NoNumber, cut-first, cut-second, cut-third, long-second, long-third, top-bit}
 
 -- the bytes of a number: one group, or two or three of which the last is not 0
 data Spelling (n : ℕ) : List ℕ → Type 0 where
@@ -83,11 +83,11 @@ only {n} (three {a} {b} {c} p q r t u v e) =
     rw (spell-three n (omega arith)) (cc)
 
 -- such bytes read as their number, whatever follows, and cut anywhere as 20
-back : {n : ℕ} {s : List ℕ} → Spelling n s → n ≤ limit → (rest : List ℕ) → readNumber (s ++ rest) ≡ value n (length s)
+back : {n : ℕ} {s : List ℕ} → Spelling n s → (rest : List ℕ) → readNumber (s ++ rest) ≡ value n (length s)
 unfolding readNumber readSecond readThird judge pick
-back (one h) l rest = search tests
-back (two p q r t e) l rest = search (tests, e)
-back (three p q r t u v e) l rest = search (tests, e)
+back (one h) rest = search tests
+back (two p q r t e) rest = search (tests, e)
+back (three p q r t u v e) rest = search (tests, e)
 
 cut : {n : ℕ} {s : List ℕ} → Spelling n s → (k : ℕ) → k < length s → readNumber (take k s) ≡ no-value 20
 unfolding readNumber readSecond readThird pick
@@ -103,35 +103,39 @@ cut (three p q r t u v e) (suc (suc (suc k))) l = absurd (omega arith)
 
 -- what is spelled reads back, whatever follows
 pub number-back : (n : ℕ) → n ≤ limit → (rest : List ℕ) → readNumber (spellNumber n ++ rest) ≡ value n (length (spellNumber n))
-number-back n h rest = back (spells n h) h rest
+number-back n h rest = back (spells n h) rest
 
 -- cut anywhere it reads as 20
 pub number-cut : (n : ℕ) → n ≤ limit → (k : ℕ) → k < length (spellNumber n) → readNumber (take k (spellNumber n)) ≡ no-value 20
 number-cut n h k l = cut (spells n h) k l
 
+-- and are within the limit
+within-limit : {n : ℕ} {s : List ℕ} → Spelling n s → n ≤ limit
+within-limit (one h) = omega arith
+within-limit (two p q r t e) = omega arith
+within-limit (three p q r t u v e) = omega arith
+
 -- bytes of a number at the front stand there
-standing : {n : ℕ} {s : List ℕ} (m : List ℕ) → Spelling n s → n ≤ limit → length s < 4 → NumberSeen (s ++ m) (value n (length s))
-standing {n} {s} m x h k =
+standing : {n : ℕ} {s : List ℕ} (m : List ℕ) → Spelling n s → length s < 4 → NumberSeen (s ++ m) (value n (length s))
+standing {n} {s} m x k =
     good {n = n} {k = length s}
     (record {
       spelt = take-append-seam s m ∙ only x;
       fits = rw length-append (omega arith);
       short = k;
-      small = h;
+      small = within-limit x;
     })
 
-judged : {l : List ℕ} (final n k : ℕ) → (final ≡ 0 → NoNumber 21 l) → (limit < n → NoNumber 21 l) → (final ≢ 0 → n ≤ limit → NumberSeen l (value n k)) → NumberSeen l (judge final n k)
+judged : {l : List ℕ} (final n k : ℕ) → (final ≡ 0 → NoNumber 21 l) → (final ≢ 0 → NumberSeen l (value n k)) → NumberSeen l (judge final n k)
 unfolding judge
-judged {l} final n k f g h =
-    either (NumberSeen l) (eqb final 0) (λ e. bad (f (eqb-true final 0 e)))
-    (λ e. either (NumberSeen l) (leb n limit) (λ d. h (eqb-false final 0 e) (leb-true n limit d)) (λ d. bad (g (leb-false n limit d))))
+judged {l} final n k f g = either (NumberSeen l) (eqb final 0) (λ e. bad (f (eqb-true final 0 e))) (λ e. g (eqb-false final 0 e))
 
 third : (a b : ℕ) (l : List ℕ) → Bytes (a ∷ b ∷ l) → 128 ≤ a → 128 ≤ b → NumberSeen (a ∷ b ∷ l) (readThird (a - 128 + 128 * (b - 128)) l)
 unfolding readThird
 third a b [] by p q = bad (cut-third p q)
 third a b (c ∷ l) by p q =
     either (NumberSeen (a ∷ b ∷ c ∷ l)) (ltb c 128)
-    (λ e. judged c _ 3 (λ z. rw z (long-third p q)) (too-large p q (ltb-true c 128 e)) (λ z h. standing l (three p (by 0) q (by 1) z (ltb-true c 128 e) refl) h (omega arith)))
+    (λ e. judged c _ 3 (λ z. rw z (long-third p q)) (λ z. standing l (three p (by 0) q (by 1) z (ltb-true c 128 e) refl) (omega arith)))
     (λ e. bad (top-bit p q (ltb-false c 128 e)))
 
 second : (a : ℕ) (l : List ℕ) → Bytes (a ∷ l) → 128 ≤ a → NumberSeen (a ∷ l) (readSecond (a - 128) l)
@@ -139,7 +143,7 @@ unfolding readSecond
 second a [] by p = bad (cut-second p)
 second a (b ∷ l) by p =
     either (NumberSeen (a ∷ b ∷ l)) (ltb b 128)
-    (λ e. judged b _ 2 (λ z. rw z (long-second p)) (λ h. absurd (omega (arith, ltb-true b 128 e, by 0))) (λ z h. standing l (two p (by 0) z (ltb-true b 128 e) refl) h (omega arith)))
+    (λ e. judged b _ 2 (λ z. rw z (long-second p)) (λ z. standing l (two p (by 0) z (ltb-true b 128 e) refl) (omega arith)))
     (λ e. third a b l by p (ltb-false b 128 e))
 
 pub number-seen : (l : List ℕ) → Bytes l → NumberSeen l (readNumber l)
@@ -147,7 +151,7 @@ unfolding readNumber
 number-seen [] by = bad cut-first
 number-seen (a ∷ l) by =
     either (NumberSeen (a ∷ l)) (ltb a 128)
-    (λ e. standing l (one (ltb-true a 128 e)) (omega (arith, ltb-true a 128 e)) (omega arith))
+    (λ e. standing l (one (ltb-true a 128 e)) (omega arith))
     (λ e. second a l by (ltb-false a 128 e))
 
 -- and nothing else reads as that number
@@ -165,9 +169,4 @@ number-none (cut-second p) = search tests
 number-none (cut-third p q) = search tests
 number-none (long-second p) = search tests
 number-none (long-third p q) = search tests
-number-none (too-large {a} {b} {c} p q r h) = rw (le-ltb a 128 p, le-ltb b 128 q, lt-ltb c 128 r, lt-leb _ limit h) (both (eqb c 0))
-  where
-    both : (t : Bool) → pick t (no-value 21) (no-value 21) ≡ no-value 21
-    both true = refl
-    both false = refl
 number-none (top-bit p q r) = search tests

@@ -1,23 +1,22 @@
 -- Numbers in groups of seven bits, lowest group first, top bit set on every byte but the last; shortest spelling only.
 use Prim.Native.Nat.{ℕ, _+_, _-_, _*_, _/_, _%_}
 use mathlib.Core.List.{List, [], _∷_}
-use lib.Dec.{ltb, leb, eqb}
+use lib.Dec.{ltb, eqb}
 use Rattle.words.specs.Tests.{pick}
-use Rattle.trace.specs.Limits.{limit}
 use Rattle.trace.specs.Answers.{NumberSaid, value, no-value}
 
--- the shortest spelling of a number below 2,097,152: 1 byte to 127, 2 to 16,383, else 3
+-- the shortest spelling of a number up to the limit: 1 byte to 127, 2 to 16,383, else 3
 unfoldable pub spellNumber : ℕ → List ℕ
 spellNumber n =
     pick (ltb n 128) (n ∷ [])
     (pick (ltb n 16384) ((128 + n % 128) ∷ (n / 128) ∷ [])
     ((128 + n % 128) ∷ (128 + n / 128 % 128) ∷ (n / 16384) ∷ []))
 
--- a number of two or three bytes, by its last byte: 21 where that is 0 (not shortest) or the number is over the limit
+-- a number of two or three bytes, by its last byte: 21 where that is 0 (not shortest)
 unfoldable pub judge : ℕ → ℕ → ℕ → NumberSaid
-judge final n k = pick (eqb final 0) (no-value 21) (pick (leb n limit) (value n k) (no-value 21))
+judge final n k = pick (eqb final 0) (no-value 21) (value n k)
 
--- the third byte, after the two lower groups: 20 where it is missing, 21 where its top bit is set
+-- the third byte, after the two lower groups: 20 where it is missing, 21 where its top bit is set (over the limit, or not shortest)
 unfoldable pub readThird : ℕ → List ℕ → NumberSaid
 readThird low [] = no-value 20
 readThird low (c ∷ l) = pick (ltb c 128) (judge c (low + 16384 * c) 3) (no-value 21)

@@ -10,8 +10,8 @@ ghost use Rattle.trace.specs.Numbers.{readNumber, spellNumber, judge};
 ghost use Rattle.trace.specs.Causes.{ticketOf};
 ghost use Rattle.trace.specs.Events.{fairTicket, fairPair, pairSaid, readAt, readTicket, asRecord, recorded, readNumbers, ofPair, put, wrote, writeAt};
 
-// The largest number, and so the largest ticket. It stands once more, in specs/Limits.antt.
-pub const LIMIT: u32 = 65535;
+// The largest number, all that three groups hold, and so the largest ticket. It stands once more, in specs/Limits.antt.
+pub const LIMIT: u32 = 2097151;
 
 // How many records there may be. It stands once more, in specs/Limits.antt.
 pub const RECORDS: u32 = 4096;
@@ -306,10 +306,7 @@ fn judged(last: u32, n: u32, length: usize) -> Numeral
     if last == 0 {
         return Numeral::Bad(Fault::Spelling);
     }
-    if n <= LIMIT {
-        return Numeral::Value { number: n, length };
-    }
-    Numeral::Bad(Fault::Spelling)
+    Numeral::Value { number: n, length }
 }
 
 // Writes an event at the front of the room, or nothing.
@@ -359,7 +356,7 @@ fn put_two(room: &mut [u8], kind: u8, t: u32, r: u32) -> Writing
     Writing::Written { length: end }
 }
 
-// Ticket 1 to 65,535.
+// Ticket 1 to 2,097,151.
 fn fair_ticket(t: u32) -> bool
     ensures { λ b. ⌜ b ≡ fairTicket t ⌝ }
 {

@@ -1,5 +1,5 @@
 -- A trace told to people: one event a line, each with the offset of its first byte.
-use Prim.Native.Nat.{ℕ, zero, suc, _+_}
+use Prim.Native.Nat.{ℕ, zero, suc, _+_, _*_}
 use mathlib.Core.List.{List, [], _∷_, _++_}
 use lib.Dec.{leb}
 use lib.ListN.{length, drop}
@@ -15,9 +15,9 @@ use Rattle.text.specs.Lines.{numeral, lineOf, refusedAt}
 abbrev pub traceBytes : ℕ
 traceBytes = longest
 
--- how many bytes always suffice for its text: eleven for each of the trace's and 38 for a refusal (`tell-whole` in TellingLaws)
+-- how many bytes always suffice for its text: ten for each of the trace's and 38 for a refusal (`tell-whole` in TellingLaws)
 abbrev pub textBytes : ℕ
-textBytes = 720934
+textBytes = 10 * traceBytes + 38
 
 -- " started "
 abbrev pub startedWord : List ℕ

@@ -11,6 +11,7 @@ use native.Mathlib.Omega.{arith}
 use borrow.Author.Tests.{leb-true, ltb-false, le-leb, lt-leb}
 use Rattle.words.specs.Tests.{pick, either, below}
 use Rattle.words.specs.Parts.{Bytes, bytes-rest, over}
+use Rattle.trace.specs.Limits.{limit}
 use Rattle.trace.specs.Answers.{ReadingSaid}
 use Rattle.trace.specs.Numbers.{spellNumber}
 use Rattle.trace.specs.NumberLaws.{spell-one, spell-two, spell-three}
@@ -70,49 +71,48 @@ numeral-short : (k n : ℕ) → n < 10 ^ suc k → length (numeral n) ≤ suc k
 unfolding numeral
 numeral-short k n h = digits-short 20 k n h
 
--- a number is spelled in a byte or more
-spelled-some : (n : ℕ) → 0 < length (spellNumber n)
-spelled-some n =
-    ⊎-elim (λ h. rw (spell-one n h) (omega arith))
-    (λ g. ⊎-elim (λ h. rw (spell-two n g h) (omega arith)) (λ h. rw (spell-three n h) (omega arith)) (below n 16384)) (below n 128)
+-- a number of one byte or more has at most three digits for the first and two for each further one
+number-long : (n : ℕ) → n ≤ limit → (0 < length (spellNumber n)) × (length (numeral n) ≤ 2 * length (spellNumber n) + 1)
+number-long n m =
+    ⊎-elim (λ h. rw (spell-one n h) (omega arith, numeral-short 2 n (omega arith)))
+    (λ g.
+    ⊎-elim (λ h. rw (spell-two n g h) (omega arith, numeral-short 4 n (omega arith))) (λ h. rw (spell-three n h) (omega arith, numeral-short 6 n (omega arith)))
+    (below n 16384)) (below n 128)
 
 module _ (at : ℕ) (h : at ≤ traceBytes) where
-  ticket-long : (w : List ℕ) (t : ℕ) → length w ≤ 10 → fairTicket t ≡ true → length (ticketLine at w t) ≤ 21
+  ticket-long : (w : List ℕ) (t k : ℕ) → length w ≤ 10 → fairTicket t ≡ true → length (ticketLine at w t) ≤ 10 * length (k ∷ spellNumber t)
   unfolding ticketLine lineOf
-  ticket-long w t k f =
-      let g = fair-ticket t .0 f in
-      simp length-append (omega (arith, numeral-short 4 at (omega arith), numeral-short 4 t (omega arith)))
+  ticket-long w t k s f = simp length-append (omega (arith, numeral-short 4 at (omega arith), number-long t (fair-ticket t .0 f .0)))
 
-  pair-long : (w : List ℕ) (t r : ℕ) → length w ≤ 10 → fairPair t r ≡ true → length (pairLine at w t r) ≤ 26
+  pair-long : (w : List ℕ) (t r k : ℕ) → length w ≤ 10 → fairPair t r ≡ true → length (pairLine at w t r) ≤ 10 * length (k ∷ (spellNumber t ++ spellNumber r))
   unfolding pairLine lineOf
-  pair-long w t r k f =
+  pair-long w t r k s f =
       let g = fair-pair t r .0 f in
-      let i = fair-ticket t .0 (g .0) in
-      simp length-append (omega (arith, numeral-short 4 at (omega arith), numeral-short 4 t (omega arith), numeral-short 3 r (omega arith)))
+      simp length-append (omega (arith, numeral-short 4 at (omega arith), number-long t (fair-ticket t .0 (g .0) .0), number-long r (omega arith)))
 
-  -- a line has at most eleven bytes for each byte of its event
-  event-long : (e : Event) → fair e ≡ true → length (eventLine at e) ≤ 11 * length (spell e)
+  -- a line has at most ten bytes for each byte of its event
+  event-long : (e : Event) → fair e ≡ true → length (eventLine at e) ≤ 10 * length (spell e)
   unfolding eventLine
-  event-long (Started t) f = omega (arith, ticket-long startedWord t (omega arith) f, spelled-some t)
-  event-long (Granted t r) f = rw length-append (omega (arith, pair-long grantedWord t r (omega arith) f, spelled-some t, spelled-some r))
-  event-long (Touched t r) f = rw length-append (omega (arith, pair-long touchedWord t r (omega arith) f, spelled-some t, spelled-some r))
-  event-long (Released t r) f = rw length-append (omega (arith, pair-long releasedWord t r (omega arith) f, spelled-some t, spelled-some r))
-  event-long (Finished t) f = omega (arith, ticket-long finishedWord t (omega arith) f, spelled-some t)
+  event-long (Started t) f = ticket-long startedWord t 1 (omega arith) f
+  event-long (Granted t r) f = pair-long grantedWord t r 2 (omega arith) f
+  event-long (Touched t r) f = pair-long touchedWord t r 3 (omega arith) f
+  event-long (Released t r) f = pair-long releasedWord t r 4 (omega arith) f
+  event-long (Finished t) f = ticket-long finishedWord t 5 (omega arith) f
 
   refused-long : (n : ℕ) → length (refusedAt n at) ≤ 38
   unfolding refusedAt lineOf
   refused-long n = simp length-append (omega (arith, numeral-long n, numeral-short 4 at (omega arith)))
 
 -- what is told by a reading, where what follows is no longer than its bytes allow
-by-long : (l : List ℕ) (at : ℕ) (on : ℕ → List ℕ) → at + length l ≤ traceBytes → ((n : ℕ) → n ≤ length l → length (on n) ≤ 11 * (length l - n) + 38)
-    → {r : ReadingSaid} → EventSeen l r → length (tellBy r at on) ≤ 11 * length l + 38
+by-long : (l : List ℕ) (at : ℕ) (on : ℕ → List ℕ) → at + length l ≤ traceBytes → ((n : ℕ) → n ≤ length l → length (on n) ≤ 10 * (length l - n) + 38)
+    → {r : ReadingSaid} → EventSeen l r → length (tellBy r at on) ≤ 10 * length l + 38
 by-long l at on h ih (whole {e} {n} w) =
     let s : length (spell e) ≡ n = ap length (sym (w .spelt)) ∙ length-take-le n l (w .fits) in
     rw length-append (omega (arith, event-long at (omega arith) e (w .proper), ih n (w .fits), w .fits))
 by-long l at on h ih (nothing e) = omega arith
 by-long l at on h ih (refused {x} c) = omega (arith, refused-long at (omega arith) x)
 
-from-long : (f : ℕ) (l : List ℕ) (at : ℕ) → Bytes l → at + length l ≤ traceBytes → length (tellFrom f l at) ≤ 11 * length l + 38
+from-long : (f : ℕ) (l : List ℕ) (at : ℕ) → Bytes l → at + length l ≤ traceBytes → length (tellFrom f l at) ≤ 10 * length l + 38
 unfolding tellFrom
 from-long zero l at by h = omega arith
 from-long (suc f) l at by h =

@@ -4,12 +4,13 @@ use Prim.Native.Nat.{ℕ}
 use lib.ListN.{length, replicate, length-replicate}
 use lib.Seq.{length-take-le}
 use borrow.Author.Needs.{needs}
+use Rattle.wording.specs.Telling.{textBytes}
 use Rattle.tell.proofs.main.Statement.{statement}
 use Rattle.tell.proofs.main.Tie as tie
 
 -- the text's length, by a law: computing it would lay out every byte
-long-text : 720934 ≡ length {A = ℕ} (replicate 720934 0)
-long-text = sym (length-replicate {A = ℕ} 720934 0)
+long-text : textBytes ≡ length {A = ℕ} (replicate textBytes 0)
+long-text = sym (length-replicate {A = ℕ} textBytes 0)
 
 slice-aggregate-read-full : tie.Need-slice-aggregate-read-full
 slice-aggregate-read-full c = search needs

@@ -12,9 +12,5 @@ returns-2 : tie.Need-returns-2
 unfolding judge pick
 returns-2 c = search tests
 
-returns-3 : tie.Need-returns-3
-unfolding judge pick
-returns-3 c = search tests
-
 pub judged-spec : {M : Type 1} → statement M
-judged-spec = tie.close (tie.spec returns returns-2 returns-3)
+judged-spec = tie.close (tie.spec returns returns-2)

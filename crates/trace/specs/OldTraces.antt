@@ -1,0 +1,57 @@
+-- Traces from before numbers went to 2,097,151 read as the same events.
+use mathlib.Core.Path.{_≡_, refl, ap, sym, subst, _∙_}
+use mathlib.Core.Logic.{_↔_}
+use Prim.Native.Nat.{ℕ, _≤_}
+use mathlib.Core.List.{List, [], _∷_, _++_, append-nil, List·Memᴰ, List·Memᴰ·head, List·Memᴰ·tail}
+use lib.ListN.{length}
+use native.Mathlib.Omega.{arith}
+use Rattle.words.specs.Parts.{Bytes}
+use Rattle.trace.specs.Limits.{limit}
+use Rattle.trace.specs.Answers.{end}
+use Rattle.trace.specs.Causes.{ticketOf, recordOf, Ranged}
+use Rattle.trace.specs.CauseLaws.{fair-ranged}
+use Rattle.trace.specs.Traces.{Read, readAll, onto, spellAll, AllFair, none, more, NoEvent, ended, Through, fair-each, spelled-reads, trace-onto, read-through}
+use Rattle.trace.specs.declared.Event.{Event}
+
+-- the largest number before
+abbrev pub oldLimit : ℕ
+oldLimit = 65535
+
+-- where numbers go up to the largest, l reads as the events es, and rest is left: they are spelled one after the other, each with its ticket and record in range
+pub record ReadsAs (largest : ℕ) (es : List Event) (l rest : List ℕ) : Type 0 where
+  pub spelt : l ≡ spellAll es ++ rest
+  pub ranged : (e : Event) → List·Memᴰ e es → Ranged largest (ticketOf e) (recordOf e)
+
+-- ---- laws
+
+fair-all : (es : List Event) → ((e : Event) → List·Memᴰ e es → Ranged limit (ticketOf e) (recordOf e)) → AllFair es
+fair-all [] r = none
+fair-all (e ∷ es) r = more (fair-ranged e .1 (r e (List·Memᴰ·head refl))) (fair-all es (λ d m. r d (List·Memᴰ·tail m)))
+
+-- with the limit of today that is what reading says
+pub reads-exactly : (l : List ℕ) → Bytes l → (es : List Event) → (readAll (length l) l ≡ record { events = es; last = end }) ↔ ReadsAs limit es l []
+reads-exactly l by es = (λ e. taken (subst (λ (r : Read). Through l r) e (read-through (length l) l (omega arith) by)), back)
+  where
+    taken : Through l (record { events = es; last = end }) → ReadsAs limit es l []
+    taken t = record { spelt = t .spelt ∙ ap (λ (r : List ℕ). spellAll es ++ r) (nothing (t .stops)); ranged = λ e m. fair-ranged e .0 (fair-each (t .proper) m) }
+      where
+        nothing : {rest : List ℕ} → NoEvent rest end → rest ≡ []
+        nothing (ended e) = e
+
+    back : ReadsAs limit es l [] → readAll (length l) l ≡ record { events = es; last = end }
+    back r =
+        let s : l ≡ spellAll es = r .spelt ∙ append-nil (spellAll es) in
+        ap (λ (k : List ℕ). readAll (length k) k) s ∙ spelled-reads (fair-all es (r .ranged))
+
+-- what read under a lower limit is in range still
+wider : {small large : ℕ} {es : List Event} {l rest : List ℕ} → small ≤ large → ReadsAs small es l rest → ReadsAs large es l rest
+wider h r = record { spelt = r .spelt; ranged = λ e m. let g = r .ranged e m in record { some = g .some; most = omega arith; few = g .few } }
+
+-- OLD TRACES READ AS BEFORE: the events that read under the old limit are read, and then what follows them
+pub old-events : {es : List Event} {l rest : List ℕ} → ReadsAs oldLimit es l rest → readAll (length l) l ≡ onto es (readAll (length rest) rest)
+old-events {es} {l} {rest} r =
+    ap (λ (k : List ℕ). readAll (length k) k) (r .spelt) ∙ trace-onto (fair-all es (wider (omega arith) r .ranged)) rest
+
+-- so a trace that read to its end reads to its end
+pub old-trace : {es : List Event} {l : List ℕ} → Bytes l → ReadsAs oldLimit es l [] → readAll (length l) l ≡ record { events = es; last = end }
+old-trace {es} {l} by r = reads-exactly l by es .1 (wider (omega arith) r)
