@@ -1,4 +1,4 @@
-/* Slices of right and wrong lengths, from C: each call serves or refuses them by number. Silent when all is well; under
+/* Slices of right and wrong lengths and tickets at their limit, from C: each call serves or refuses them by number. Silent when all is well; under
    valgrind a step past a slice is an error too, since each is allocated at exactly its size. */
 #include "saltlicker.h"
 #include <stdio.h>
@@ -41,8 +41,18 @@ static void judge(size_t n, size_t m, size_t desk_words, size_t words, size_t co
 static void read_and_write(size_t bytes, size_t words, uint32_t read, uint32_t written) {
     uint8_t *room = slice(bytes);
     uint32_t *event = slice(words * sizeof *event);
-    expect("write", saltlicker_write(room, bytes, SALTLICKER_TOUCH, 65535, 4095), written);
+    expect("write", saltlicker_write(room, bytes, SALTLICKER_TOUCH, 2097151, 4095), written);
     expect("read", saltlicker_read(room, bytes, event, words), read);
+    free(room), free(event);
+}
+
+/* A ticket of three bytes reads back as itself; one that is refused leaves the room, and no kind is 7. */
+static void ticket(uint32_t number, uint32_t written, uint32_t read) {
+    uint8_t *room = slice(4);
+    uint32_t *event = slice(3 * sizeof *event);
+    expect("write, a ticket", saltlicker_write(room, 4, SALTLICKER_BEGIN, number, 0), written);
+    expect("read, a ticket", saltlicker_read(room, 4, event, 3), read);
+    if (read == SALTLICKER_FOUND && event[1] != number) failed = 1;
     free(room), free(event);
 }
 
@@ -86,6 +96,8 @@ int main(void) {
     judge(4, 4, whole, 4, 1, SALTLICKER_WRONG_LENGTH, 0), judge(4, 4, whole, 3, 2, SALTLICKER_WRONG_LENGTH, 0);
     read_and_write(6, 3, SALTLICKER_FOUND, SALTLICKER_WRITTEN), read_and_write(0, 3, SALTLICKER_END, 24);
     read_and_write(5, 3, SALTLICKER_UNKNOWN_KIND, 24), read_and_write(6, 2, SALTLICKER_WRONG_LENGTH, SALTLICKER_WRITTEN);
+    ticket(65535, SALTLICKER_WRITTEN, SALTLICKER_FOUND), ticket(65536, SALTLICKER_WRITTEN, SALTLICKER_FOUND);
+    ticket(2097151, SALTLICKER_WRITTEN, SALTLICKER_FOUND), ticket(2097152, 23, SALTLICKER_UNKNOWN_KIND);
     order(0, 2048, 256, SALTLICKER_ORDERED), order(65536, 2048, 256, SALTLICKER_ORDERED), order(3, 2048, 256, 20);
     order(65537, 2048, 256, 26), order(65537, 2047, 256, 25), order(0, 2049, 256, 25), order(0, 2048, 0, 25);
     audit(0, 4096, 4096, 1, SALTLICKER_ACCEPTED, 0), audit(2, 4096, 4096, 1, SALTLICKER_ACCEPTED, 0);

@@ -34,14 +34,14 @@ static inline uint32_t saltlicker_value(saltlicker_answer answer) { return (uint
     3 record not below the tables' length
     4 BEGIN on a live seat
     5 another request on a free seat
-    6 BEGIN with 65,535 or more begun
+    6 BEGIN with 2,097,151 or more begun
     7 TOUCH or RELEASE of a record that the seat does not hold
     8 LOCK, TOUCH or RELEASE of a record that it holds and has released
    Of an event, the first fault from the left:
    20 the input ends inside it
-   21 number not shortest, over 65,535, or of more than three bytes
+   21 number not shortest, over 2,097,151, or of more than three bytes
    22 kind not 1 to 5
-   23 ticket 0 or over 65,535, or record over 4,095
+   23 ticket 0 or over 2,097,151, or record over 4,095
    24 no room to write it
    Of an order, also 20 to 23:
    25 table or list of wrong length

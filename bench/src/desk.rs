@@ -1,11 +1,13 @@
 //! The desk's types by hand, and the words that spell them.
 
+use crate::trace::LIMIT;
+
 /// How many seats there are.
 pub const SEATS: usize = 32;
 /// How many words spell a desk.
 pub const DESK_WORDS: usize = 67;
 /// The most changes that may begin.
-pub const MOST_BEGUN: u32 = 65_535;
+pub const MOST_BEGUN: u32 = LIMIT;
 /// Words or answers of another length than the call asks.
 pub const WRONG_LENGTH: u64 = 99 << 32;
 /// A request of no such kind.

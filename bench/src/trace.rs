@@ -1,7 +1,7 @@
 //! The event reader and writer by hand.
 
 /// The largest number, and so the largest ticket.
-const LIMIT: u32 = 65_535;
+pub const LIMIT: u32 = 2_097_151;
 /// How many records there may be.
 pub const RECORDS: u32 = 4_096;
 
@@ -98,7 +98,7 @@ fn number(rest: &[u8]) -> Result<(u32, usize), Fault> {
 }
 
 fn judged(last: u32, number: u32, length: usize) -> Result<(u32, usize), Fault> {
-    if last == 0 || number > LIMIT {
+    if last == 0 {
         return Err(Fault::Spelling);
     }
     Ok((number, length))

@@ -1,6 +1,7 @@
 //! The desk: two tables and a desk record, judged one request at a time.
 
 use crate::event::Event;
+use crate::number::LARGEST;
 use crate::request::Request;
 use crate::Refusal;
 
@@ -8,8 +9,8 @@ use crate::Refusal;
 pub const SEATS: usize = 32;
 /// The most records the tables may have.
 pub const MOST_RECORDS: usize = 4_096;
-/// The most changes that may begin.
-pub const MOST_BEGUN: u32 = 65_535;
+/// The most changes that may begin: each has a ticket of its own.
+pub const MOST_BEGUN: u32 = LARGEST;
 
 /// Word a belongs to record a, bit s to seat s.
 #[derive(Clone, Debug, PartialEq, Eq)]
@@ -172,8 +173,8 @@ fn release(tables: &mut Tables, seat: u32, record: u32) -> Answer {
 }
 
 fn finish(tables: &mut Tables, desk: &mut DeskRecord, seat: u32) -> Answer {
-    for word in tables.held.iter_mut().chain(tables.released.iter_mut()) {
-        *word = without(*word, seat);
+    for table in [&mut tables.held, &mut tables.released] {
+        table.iter_mut().for_each(|word| *word = without(*word, seat));
     }
     // A wake left behind would be inherited by the next change in this seat.
     for other in desk.seats.iter_mut() {

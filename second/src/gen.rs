@@ -79,7 +79,7 @@ pub fn events(trace: &[u8]) -> Pieces {
     pieces
 }
 
-/// A request or event that has a spelling: kind, then its numbers, each at most 65,535.
+/// A request or event that has a spelling: kind, then its numbers, each at most `LARGEST`.
 pub fn piece(kind: u8, numbers: &[u32]) -> Vec<u8> {
     let mut bytes = vec![kind];
     for &number in numbers {

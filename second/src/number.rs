@@ -2,8 +2,8 @@
 
 use crate::Refusal;
 
-/// The largest number there is.
-pub const LARGEST: u32 = 65_535;
+/// The largest number there is, which fills three groups.
+pub const LARGEST: u32 = 2_097_151;
 
 /// The number at the front of `rest` and its length, or refusal 20 or 21.
 pub fn read_number(rest: &[u8]) -> Result<(u32, usize), Refusal> {
@@ -16,10 +16,10 @@ pub fn read_number(rest: &[u8]) -> Result<(u32, usize), Refusal> {
         if byte < 128 {
             // A last group of zero adds nothing, so a shorter spelling exists.
             let shortest = at == 0 || byte != 0;
-            return if shortest && value <= LARGEST { Ok((value, at + 1)) } else { Err(21) };
+            return if shortest { Ok((value, at + 1)) } else { Err(21) };
         }
     }
-    // The third byte had its top bit set.
+    // A third byte with its top bit set: over the largest, or not shortest.
     Err(21)
 }
 

@@ -86,18 +86,19 @@ fn tables_of_another_length_are_unchanged() {
 #[test]
 fn faults_of_reading_leave_the_tables_as_after_the_last_event() {
     let good = [1, 1, 2, 1, 5, 4, 1, 5, 2, 1, 0x80, 1];
-    let faults: [(&[u8], u32); 11] = [
+    let faults: [(&[u8], u32); 12] = [
         (&[1], 20),
         (&[2, 1], 20),
         (&[2, 1, 0x80], 20),
         (&[1, 0x80, 0], 21),
-        (&[1, 0x80, 0x80, 4], 21),
+        (&[1, 0x80, 0x80, 0x80, 1], 21),
         (&[3, 1, 0x85, 0], 21),
         (&[0], 22),
         (&[6, 1], 22),
         (&[255], 22),
         (&[5, 0], 23),
         (&[3, 1, 0x80, 0x20], 23),
+        (&[3, 1, 0x80, 0x80, 4], 23),
     ];
     for (fault, number) in faults {
         assert_eq!(call(fault), (number, 0, vec![], vec![]));
@@ -123,6 +124,8 @@ fn tickets_start_at_1_and_rise_by_one() {
     last_not_allowed(&[1, 2], 2);
     last_not_allowed(&[1, 1, 1, 1], 2);
     last_not_allowed(&[1, 1, 1, 3], 2);
+    last_not_allowed(&[1, 1, 1, 0x80, 0x80, 4], 4);
+    last_not_allowed(&[1, 1, 1, 0xFF, 0xFF, 0x7F], 4);
     // A finished change's ticket does not come again, and does not stay the next one.
     last_not_allowed(&[1, 1, 5, 1, 1, 1], 2);
     assert!(accepted(&[1, 1, 5, 1, 1, 2]));
@@ -256,14 +259,15 @@ fn the_trace_of_a_desk_run_in_odd_seats() {
 #[test]
 fn the_last_ticket_and_none_after_it() {
     let mut trace = Vec::new();
-    for ticket in 1..=65_535 {
+    for ticket in 1..=2_097_151 {
         let spelled = write_number(ticket);
         trace.extend([&[1], &spelled[..], &[5], &spelled[..]].concat());
     }
     assert!(accepted(&trace));
     let end = trace.len();
-    assert_eq!(call(&[&trace[..], &[1, 0x80, 0x80, 4]].concat()), (21, end, vec![], vec![]));
-    assert_eq!(call(&[&trace[..], &[1, 0xFF, 0xFF, 3]].concat()), (40, end, vec![], vec![]));
+    let then = |event: &[u8]| call(&[&trace[..], event].concat());
+    assert_eq!(then(&[1, 0x80, 0x80, 0x80, 1]), (21, end, vec![], vec![]));
+    assert_eq!(then(&[1, 0xFF, 0xFF, 0x7F]), (40, end, vec![], vec![]));
 }
 
 #[test]

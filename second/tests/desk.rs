@@ -139,12 +139,24 @@ fn refusals_in_the_order_of_the_table() {
 #[test]
 fn the_last_ticket_and_the_one_after() {
     let mut work = after(&[begin(0)]);
-    work.desk.begun = 65_534;
-    assert_eq!(work.ask(begin(1)), Answer::Started(65_535));
+    work.desk.begun = 2_097_150;
+    assert_eq!(work.ask(begin(1)), Answer::Started(2_097_151));
     assert_eq!(unchanged(&work, begin(2)), Answer::Refused(6));
     assert_eq!(unchanged(&work, begin(1)), Answer::Refused(4));
-    work.desk.begun = u32::MAX;
-    assert_eq!(unchanged(&work, begin(2)), Answer::Refused(6));
+    for begun in [2_097_152, u32::MAX] {
+        work.desk.begun = begun;
+        assert_eq!(unchanged(&work, begin(2)), Answer::Refused(6));
+    }
+}
+
+#[test]
+fn tickets_65_535_and_65_536() {
+    let mut work = after(&[begin(0)]);
+    work.desk.begun = 65_534;
+    assert_eq!(work.ask(begin(1)), Answer::Started(65_535));
+    assert_eq!(work.ask(begin(2)), Answer::Started(65_536));
+    assert_eq!(work.ask(finish(2)), Answer::Finished);
+    assert_eq!(work.trace[work.trace.len() - 4..], [5, 0x80, 0x80, 4]);
 }
 
 #[test]

@@ -14,7 +14,7 @@ fn every_kind(ticket: u32, record: u32) -> [Event; 5] {
 
 #[test]
 fn each_event_reads_back_as_itself() {
-    for ticket in [1, 127, 128, 256, 257, 16_383, 16_384, 65_535] {
+    for ticket in [1, 127, 128, 256, 257, 16_383, 16_384, 65_535, 65_536, 2_097_151] {
         for record in [0, 127, 128, 4_095] {
             for event in every_kind(ticket, record) {
                 let bytes = spell_event(event).unwrap();
@@ -46,7 +46,16 @@ fn the_first_fault_from_the_left_decides() {
     assert_eq!(read_event(&[0x02, 0x01]), Err(20));
     assert_eq!(read_event(&[0x02, 0x01, 0x80]), Err(20));
     assert_eq!(read_event(&[0x02, 0x01, 0x80, 0x00]), Err(21));
-    assert_eq!(read_event(&[0x03, 0x01, 0x80, 0x80, 0x04]), Err(21));
+    assert_eq!(read_event(&[0x03, 0x01, 0x80, 0x80, 0x80]), Err(21));
+}
+
+#[test]
+fn tickets_at_their_limit() {
+    let at = |ticket| Ok(Some((Event::Started { ticket }, 4)));
+    assert_eq!(read_event(&[0x01, 0xFF, 0xFF, 0x03]), at(65_535));
+    assert_eq!(read_event(&[0x01, 0x80, 0x80, 0x04]), at(65_536));
+    assert_eq!(read_event(&[0x01, 0xFF, 0xFF, 0x7F]), at(2_097_151));
+    assert_eq!(read_event(&[0x01, 0x80, 0x80, 0x80, 0x01]), Err(21));
 }
 
 #[test]
@@ -55,16 +64,21 @@ fn records_at_their_limit() {
     let last = Event::Touched { ticket: 1, record: 4_095 };
     assert_eq!(read_event(&[0x03, 0x01, 0xFF, 0x1F]), Ok(Some((last, 4))));
     assert_eq!(read_event(&[0x03, 0x01, 0x80, 0x20]), Err(23));
+    // A higher number reads, and is no record.
+    assert_eq!(read_event(&[0x03, 0x01, 0x80, 0x80, 0x04]), Err(23));
+    assert_eq!(read_event(&[0x03, 0x01, 0xFF, 0xFF, 0x7F]), Err(23));
 }
 
 #[test]
 fn writing_refuses_23_then_24_and_touches_nothing() {
     let wrong = [
         Event::Started { ticket: 0 },
-        Event::Finished { ticket: 65_536 },
+        Event::Started { ticket: u32::MAX },
+        Event::Finished { ticket: 2_097_152 },
         Event::Granted { ticket: 1, record: 4_096 },
         Event::Touched { ticket: 0, record: 0 },
-        Event::Released { ticket: 65_536, record: 4_096 },
+        Event::Granted { ticket: 65_536, record: 65_536 },
+        Event::Released { ticket: 2_097_152, record: 4_096 },
     ];
     for event in wrong {
         let mut room = [0xAA; 8];
@@ -107,7 +121,7 @@ fn walk(trace: &[u8]) -> (Vec<Event>, Option<u32>) {
 #[test]
 fn a_cut_trace_reads_as_the_events_before_the_cut() {
     let mut events = Vec::new();
-    for (ticket, record) in [(1, 0), (128, 128), (16_384, 4_095)] {
+    for (ticket, record) in [(1, 0), (128, 128), (16_384, 4_095), (2_097_151, 4_095)] {
         events.extend(every_kind(ticket, record));
     }
     let mut trace = Vec::new();

@@ -43,7 +43,7 @@ fn a_seed_gives_the_same_files_and_another_gives_others() {
 
 #[test]
 fn request_files_reach_every_line() {
-    // 1 and 6 cannot be reached: the tables fit, and a file is too short for 65,535 changes.
+    // 1 and 6 cannot be reached: the tables fit, and a file is too short for 2,097,151 changes.
     let expected = set(&[
         "started",
         "granted",
@@ -142,8 +142,6 @@ fn traces_to_check_are_refused_in_every_way() {
         "4 Refused(8)",
         "5 no seat",
     ]);
-    // The few traces of every ticket may start one more, or not.
-    counts.remove("1 Refused(6)");
     assert!(counts.values().all(|&count| count >= 5), "{counts:?}");
     assert_eq!(counts.into_keys().collect::<BTreeSet<String>>(), expected);
 }
@@ -159,10 +157,26 @@ fn files_reach_their_limits() {
 }
 
 #[test]
+fn files_reach_the_limits_of_numbers() {
+    for make in [desk_file, order_file, audit_file] {
+        let files: Vec<Vec<u8>> = (0..2_000).map(|index| make(1, index)).collect();
+        let has =
+            |bytes: &[u8]| files.iter().any(|file| file.windows(bytes.len()).any(|w| w == bytes));
+        for number in [16_383, 16_384, 65_535, 65_536, 2_097_150, 2_097_151, 2_097_152, 2_097_153] {
+            assert!(has(&spell(number, 1)), "{number}");
+        }
+    }
+    // Tickets past 65,536, and the eighth stop of a reader by the longest order's bytes.
+    let longest = (0..3_000).map(|index| audit_file(1, index).len()).max();
+    assert!(longest > Some(8 * 65_536));
+}
+
+#[test]
 fn strange_spellings() {
     assert_eq!(spell(5, 1), [5]);
     assert_eq!(spell(5, 2), [0x85, 0]);
     assert_eq!(spell(0, 3), [0x80, 0x80, 0]);
     assert_eq!(spell(65_536, 1), [0x80, 0x80, 4]);
+    assert_eq!(spell(2_097_151, 1), [0xFF, 0xFF, 0x7F]);
     assert_eq!(spell(2_097_152, 1), [0x80, 0x80, 0x80, 1]);
 }

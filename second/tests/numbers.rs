@@ -2,7 +2,7 @@
 
 use second::number::{read_number, write_number};
 
-const PRINTED: [(u32, &[u8]); 7] = [
+const PRINTED: [(u32, &[u8]); 9] = [
     (0, &[0x00]),
     (127, &[0x7F]),
     (128, &[0x80, 0x01]),
@@ -10,6 +10,8 @@ const PRINTED: [(u32, &[u8]); 7] = [
     (16_383, &[0xFF, 0x7F]),
     (16_384, &[0x80, 0x80, 0x01]),
     (65_535, &[0xFF, 0xFF, 0x03]),
+    (65_536, &[0x80, 0x80, 0x04]),
+    (2_097_151, &[0xFF, 0xFF, 0x7F]),
 ];
 
 #[test]
@@ -22,7 +24,7 @@ fn printed_spellings() {
 
 #[test]
 fn every_number_reads_back_as_itself_whatever_follows() {
-    for value in 0..=65_535 {
+    for value in 0..=2_097_151 {
         let mut bytes = write_number(value);
         let length = bytes.len();
         assert_eq!(
@@ -60,15 +62,16 @@ fn ends_inside_a_number() {
 
 #[test]
 fn not_shortest_or_too_large() {
-    let wrong: [&[u8]; 8] = [
+    let wrong: [&[u8]; 9] = [
         &[0x80, 0x00],
         &[0xFF, 0x00],
         &[0x80, 0x80, 0x00],
         &[0xFF, 0xFF, 0x00],
-        &[0x80, 0x80, 0x04],
-        &[0xFF, 0xFF, 0x7F],
         &[0x80, 0x80, 0x80],
+        &[0xFF, 0xFF, 0xFF],
         &[0x80, 0x80, 0x80, 0x00],
+        &[0x80, 0x80, 0x80, 0x01],
+        &[0xFF, 0xFF, 0xFF, 0x7F],
     ];
     for bytes in wrong {
         assert_eq!(read_number(bytes), Err(21));

@@ -107,10 +107,15 @@ fn ticket_257_in_any_event_that_reads() {
         let trace = [&[3, 1, 5][..], event, &[0]].concat();
         assert_eq!(untouched(&trace), (27, 3));
     }
+    for highest in [[0xFF, 0xFF, 3], [0x80, 0x80, 4], [0xFF, 0xFF, 0x7F]] {
+        assert_eq!(untouched(&[&[3, 1, 5, 1], &highest[..]].concat()), (27, 3));
+        assert_eq!(untouched(&[&[3, 1, 5, 3], &highest[..], &[5]].concat()), (27, 3));
+    }
     // The event must read: a fault in its record comes first.
     assert_eq!(untouched(&[3, 0x81, 2]), (20, 0));
     assert_eq!(untouched(&[3, 0x81, 2, 0x80, 0]), (21, 0));
     assert_eq!(untouched(&[3, 0x81, 2, 0x80, 0x20]), (23, 0));
+    assert_eq!(untouched(&[3, 0x80, 0x80, 4, 0x80, 0x80, 4]), (23, 0));
 }
 
 #[test]

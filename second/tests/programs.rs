@@ -74,16 +74,22 @@ fn an_empty_file() {
 #[test]
 fn seat_31_and_32() {
     assert_eq!(desk_text(&[1, 31, 1, 32]), "started 1\nrefused 2\norder 0\n");
-    assert_eq!(desk_text(&[1, 0xFF, 0xFF, 3]), "refused 2\norder 0\n");
+    // Any number there is reads as a seat.
+    for seat in [[0xFF, 0xFF, 3], [0x80, 0x80, 4], [0xFF, 0xFF, 0x7F]] {
+        let input = [&[1], &seat[..], &[2], &seat[..], &[5, 5], &seat[..]].concat();
+        assert_eq!(desk_text(&input), "refused 2\nrefused 2\nrefused 2\norder 0\n");
+    }
 }
 
 #[test]
 fn record_255_and_256() {
     let text = desk_text(&[1, 0, 2, 0, 0xFF, 1, 2, 0, 0x80, 2, 3, 0, 0xFF, 1]);
     assert_eq!(text, "started 1\ngranted\nrefused 3\ntouched\norder 1\n1\n");
-    assert_eq!(desk_text(&[1, 0, 2, 0, 0xFF, 0xFF, 3]), "started 1\nrefused 3\norder 0\n");
     // Past 4,095 too there is no fault 23 in a request file.
-    assert_eq!(desk_text(&[1, 0, 3, 0, 0x80, 0x20]), "started 1\nrefused 3\norder 0\n");
+    for record in [&[0x80, 0x20][..], &[0xFF, 0xFF, 3], &[0x80, 0x80, 4], &[0xFF, 0xFF, 0x7F]] {
+        let input = [&[1, 0, 2, 0], record, &[3, 0], record].concat();
+        assert_eq!(desk_text(&input), "started 1\nrefused 3\nrefused 3\norder 0\n");
+    }
 }
 
 #[test]
@@ -101,7 +107,7 @@ fn faults_after_good_requests() {
         (&[2, 0], 20),
         (&[2, 0, 0x80, 0x80], 20),
         (&[1, 0x80, 0], 21),
-        (&[2, 0, 0x80, 0x80, 4], 21),
+        (&[1, 0x80, 0x80, 0x80, 1], 21),
         (&[2, 0, 0x80, 0x80, 0x80], 21),
         (&[0], 22),
         (&[6, 1], 22),
@@ -186,6 +192,7 @@ fn the_audit_program_prints_one_line() {
     assert_eq!(audit_text(&[1, 1, 0]), "refused 22 at 2\n");
     assert_eq!(audit_text(&[1, 1, 5, 0]), "refused 23 at 2\n");
     assert_eq!(audit_text(&[1, 1, 3, 1, 5]), "refused 40 at 2\n");
+    assert_eq!(audit_text(&[1, 1, 1, 0xFF, 0xFF, 0x7F]), "refused 40 at 2\n");
     // A trace that is ordered need not be one of a desk.
     assert_eq!(order_text(&[3, 1, 5]), "order 1\n1\n");
     assert_eq!(audit_text(&[3, 1, 5]), "refused 40 at 0\n");

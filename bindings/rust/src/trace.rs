@@ -3,7 +3,7 @@
 use crate::names::{code, value, END, EVENT_WORDS, FOUND, WRITTEN};
 use crate::{names, raw, Fault, Refusal};
 
-/// What the desk allowed. Ticket 1 to 65,535 and record 0 to 4,095 can be written.
+/// What the desk allowed. Ticket 1 to 2,097,151 and record 0 to 4,095 can be written.
 #[derive(Clone, Copy, Debug, PartialEq, Eq, Hash)]
 pub enum Event {
     Started { ticket: u32 },

@@ -2,7 +2,9 @@
 
 use saltlicker::names::*;
 use saltlicker::Request::{Begin, Finish, Lock, Release, Touch};
-use saltlicker::{append_event, audit, audit_and_tables, audit_text, raw, Desk, Fault, Refusal};
+use saltlicker::{
+    append_event, audit, audit_and_tables, audit_text, raw, Desk, Event, Fault, Refusal,
+};
 
 /// The sweep passes record 5 and the editor follows it; at 19 the editor is in the sweep's wake.
 const WAKE: [u8; 19] = [1, 1, 2, 1, 5, 3, 1, 5, 4, 1, 5, 1, 2, 2, 2, 5, 3, 2, 5];
@@ -62,11 +64,12 @@ fn events_that_do_not_read() {
     for (event, number) in [
         (&[2, 2][..], 20),
         (&[1, 0x80, 0], 21),
-        (&[1, 0x80, 0x80, 4], 21),
+        (&[1, 0x80, 0x80, 0x80, 1], 21),
         (&[0], 22),
         (&[9], 22),
         (&[1, 0], 23),
         (&[3, 2, 0x80, 0x20], 23),
+        (&[3, 2, 0x80, 0x80, 4], 23),
     ] {
         refused_after(&[], event, number);
         refused_after(&WAKE, event, number);
@@ -79,6 +82,8 @@ fn each_kind_where_the_desk_could_not_write_it() {
     for event in [
         &[1, 2][..],
         &[1, 4],
+        &[1, 0x80, 0x80, 4],
+        &[1, 0xFF, 0xFF, 0x7F],
         &[2, 1, 5],
         &[2, 2, 6],
         &[2, 3, 7],
@@ -114,6 +119,20 @@ fn a_trace_may_have_any_length() {
     trace.extend([3, 1, 6]);
     assert_eq!(audit(&trace), Err(fault(40, end)));
     assert_eq!(audit_text(&trace), format!("refused 40 at {end}\n"));
+}
+
+#[test]
+fn the_last_ticket_and_none_after_it() {
+    let mut trace = Vec::new();
+    for ticket in 1..=2_097_151 {
+        append_event(&mut trace, Event::Started { ticket }).unwrap();
+        append_event(&mut trace, Event::Finished { ticket }).unwrap();
+    }
+    assert_eq!(trace[trace.len() - 4..], [5, 0xFF, 0xFF, 0x7F]);
+    // Refused only there, and so accepted up to there.
+    let end = trace.len();
+    trace.extend([1, 0xFF, 0xFF, 0x7F]);
+    assert_eq!(audit(&trace), Err(fault(40, end)));
 }
 
 #[test]

@@ -66,7 +66,13 @@ fn six_for_the_last_ticket() {
     words[66] = 65_534;
     let mut desk = Desk::from_parts(vec![0], vec![0], words);
     assert_eq!(desk.ask(Begin { seat: 0 }).answer, Answer::Started { ticket: 65_535 });
+    assert_eq!(desk.ask(Begin { seat: 1 }).answer, Answer::Started { ticket: 65_536 });
+    words[66] = 2_097_150;
+    let mut desk = Desk::from_parts(vec![0], vec![0], words);
+    assert_eq!(desk.ask(Begin { seat: 0 }).answer, Answer::Started { ticket: 2_097_151 });
     unchanged(desk, Begin { seat: 1 }, 6);
+    words[66] = 2_097_152;
+    unchanged(Desk::from_parts(vec![0], vec![0], words), Begin { seat: 0 }, 6);
 }
 
 #[test]

@@ -5,13 +5,15 @@ use saltlicker::{append_event, events, raw, read_event, write_event, Event, Faul
 
 #[test]
 fn tickets_on_each_side_of_a_length() {
-    let spellings: [(u32, &[u8]); 6] = [
+    let spellings: [(u32, &[u8]); 8] = [
         (1, &[0x01]),
         (127, &[0x7F]),
         (128, &[0x80, 0x01]),
         (16_383, &[0xFF, 0x7F]),
         (16_384, &[0x80, 0x80, 0x01]),
         (65_535, &[0xFF, 0xFF, 0x03]),
+        (65_536, &[0x80, 0x80, 0x04]),
+        (2_097_151, &[0xFF, 0xFF, 0x7F]),
     ];
     for (ticket, bytes) in spellings {
         let mut room = [7; 8];
@@ -25,7 +27,7 @@ fn tickets_on_each_side_of_a_length() {
 
 #[test]
 fn every_kind_reads_back() {
-    let (ticket, record) = (65_535, 4_095);
+    let (ticket, record) = (2_097_151, 4_095);
     let all = [
         Event::Started { ticket },
         Event::Granted { ticket, record },
@@ -44,20 +46,22 @@ fn every_kind_reads_back() {
 
 #[test]
 fn reading_is_refused_by_the_first_fault() {
-    let faults: [(&[u8], u32); 13] = [
+    let faults: [(&[u8], u32); 15] = [
         (&[1], 20),
         (&[1, 0x80], 20),
         (&[2, 1], 20),
         (&[2, 1, 0x80], 20),
         (&[1, 0x80, 0x00], 21),
-        (&[1, 0x80, 0x80, 0x04], 21),
         (&[1, 0x80, 0x80, 0x80], 21),
+        (&[1, 0x80, 0x80, 0x80, 0x01], 21),
         (&[0], 22),
         (&[6, 1, 1], 22),
         (&[255], 22),
         (&[1, 0], 23),
         (&[2, 0], 23),
         (&[3, 1, 0x80, 0x20], 23),
+        (&[3, 1, 0x80, 0x80, 0x04], 23),
+        (&[3, 1, 0xFF, 0xFF, 0x7F], 23),
     ];
     for (bytes, number) in faults {
         assert_eq!(read_event(bytes), Err(Refusal(number)), "{bytes:?}");
@@ -70,10 +74,10 @@ fn reading_is_refused_by_the_first_fault() {
 
 #[test]
 fn writing_is_refused_and_leaves_the_room() {
-    let (good, record) = (65_535, 4_095);
+    let (good, record) = (2_097_151, 4_095);
     let faults = [
         (Event::Started { ticket: 0 }, 8, 23),
-        (Event::Started { ticket: 65_536 }, 8, 23),
+        (Event::Started { ticket: 2_097_152 }, 8, 23),
         (Event::Finished { ticket: u32::MAX }, 8, 23),
         (Event::Granted { ticket: 1, record: 4_096 }, 8, 23),
         (Event::Released { ticket: 1, record: u32::MAX }, 0, 23),

@@ -20,7 +20,7 @@ fn right() -> Proved {
 fn the_same_on_both_sides_is_no_difference() {
     let (tally, differences) = run(&right(), 3, 300);
     assert!(differences.is_empty());
-    // No file can carry tables, a record, a room, a table of befores or 65,535 changes.
+    // No file can carry tables, a record, a room, a table of befores or 2,097,151 changes.
     let files = [DESK.files, ORDER.files, AUDIT.files];
     assert_eq!(tally.never_met(&files), "refused 1, refused 6, refused 24, refused 25");
     assert_eq!(tally.never_met(&[DESK.files, ORDER.files, AUDIT.files, PLACE]), "none");

@@ -68,10 +68,10 @@ fn sweeps(rng: &mut Rng, floor: &mut Floor) {
     }
 }
 
-/// A trace that ends about where a reader by the longest order's bytes would stop, once to three times, or one of every ticket.
+/// A trace that ends about where a reader by the longest order's bytes would stop, once to three times, or one of many tickets.
 pub fn very_long(rng: &mut Rng) -> Vec<u8> {
     if rng.chance(20) {
-        return every_ticket(rng);
+        return many_tickets(rng);
     }
     let mut trace = [piece(1, &[1]), piece(2, &[1, 5]), piece(2, &[1, 200])].concat();
     let end = LONGEST_TRACE * rng.between(1, 3) as usize;
@@ -88,16 +88,26 @@ pub fn very_long(rng: &mut Rng) -> Vec<u8> {
     trace
 }
 
-/// Changes that begin and finish, to the last ticket, and then sometimes one more.
-fn every_ticket(rng: &mut Rng) -> Vec<u8> {
-    let mut trace = Vec::new();
-    for ticket in 1..=MOST_BEGUN {
+/// Changes that begin and finish beside the first one, to about ticket 65,536 or past where that
+/// reader would stop next. The last one locks, touches and releases, and something more may follow.
+/// The largest ticket would take 32 times as many events: a test has it, no file does.
+fn many_tickets(rng: &mut Rng) -> Vec<u8> {
+    let last = rng.pick(&[65_534, 65_535, 65_536, 69_700]);
+    let mut trace = [piece(1, &[1]), piece(2, &[1, 5])].concat();
+    // Some touches of three bytes, so that the reader may stop anywhere in a later event.
+    trace.extend(piece(3, &[1, 5]).repeat(rng.place(8)));
+    for ticket in 2..last {
         trace.extend(piece(1, &[ticket]));
         trace.extend(piece(5, &[ticket]));
     }
+    trace.extend(piece(1, &[last]));
+    for kind in 2..=4 {
+        trace.extend(piece(kind, &[last, 6]));
+    }
     if rng.chance(70) {
-        trace.push(1);
-        trace.extend(damage::spell(rng.pick(&[1, MOST_BEGUN, MOST_BEGUN + 1]), 1));
+        trace.push(rng.pick(&[1, 1, 5]));
+        let ticket = rng.pick(&[1, last, last + 1, last + 1, MOST_BEGUN, MOST_BEGUN + 1]);
+        trace.extend(damage::spell(ticket, 1));
     }
     trace
 }

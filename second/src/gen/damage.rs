@@ -7,9 +7,10 @@ use super::Pieces;
 const KINDS: [u8; 10] = [0, 1, 2, 3, 4, 5, 6, 7, 128, 255];
 
 /// Numbers on each side of every limit there is.
-const EDGES: [u32; 24] = [
+const EDGES: [u32; 27] = [
     0, 1, 2, 31, 32, 127, 128, 255, 256, 257, 258, 4_094, 4_095, 4_096, 4_097, 16_383, 16_384,
-    65_534, 65_535, 65_536, 65_537, 131_072, 2_097_151, 2_097_152,
+    65_534, 65_535, 65_536, 65_537, 131_072, 2_097_150, 2_097_151, 2_097_152, 2_097_153,
+    16_777_216,
 ];
 
 /// Strange pieces put between the others, or bytes altered, or both.

@@ -92,8 +92,10 @@ pub fn one_change(rng: &mut Rng, floor: &mut Floor) {
 
 /// Good spellings of seats and records at and past their limits.
 fn limits(rng: &mut Rng) -> Pieces {
-    const SEATS: [u32; 9] = [0, 30, 31, 31, 31, 32, 127, 128, 65_535];
-    const PLACES: [u32; 11] = [0, 127, 128, 254, 255, 255, 256, 4_095, 4_096, 16_384, 65_535];
+    const SEATS: [u32; 11] = [0, 30, 31, 31, 31, 32, 127, 128, 65_535, 65_536, 2_097_151];
+    const PLACES: [u32; 14] = [
+        0, 127, 128, 254, 255, 255, 256, 4_095, 4_096, 16_384, 65_535, 65_536, 2_097_150, 2_097_151,
+    ];
     let mut pieces = vec![piece(1, &[0]), piece(1, &[31])];
     for _ in 0..rng.between(1, 40) {
         let kind = rng.pick(&[1, 2, 2, 2, 3, 3, 4, 5]);

@@ -130,10 +130,12 @@ fn long(rng: &mut Rng) -> Pieces {
 /// Tickets and records at their limits, now and then past them.
 fn limits(rng: &mut Rng) -> Pieces {
     const RECORDS: [u32; 6] = [0, 127, 128, 4_094, 4_095, 4_095];
+    const PAST: [u32; 6] = [4_096, 4_096, 4_096, 65_535, 65_536, 2_097_151];
     let mut pieces = Pieces::new();
     for _ in 0..rng.between(1, 20) {
         let ticket = limit_ticket(rng);
-        let record = if rng.chance(4) { 4_096 } else { rng.pick(&RECORDS) };
+        let records = if rng.chance(4) { &PAST } else { &RECORDS };
+        let record = rng.pick(records);
         let kind = rng.pick(&[1, 2, 3, 3, 3, 4, 5]);
         let numbers = [ticket, record];
         let has_record = (2..=4).contains(&kind);
@@ -144,7 +146,7 @@ fn limits(rng: &mut Rng) -> Pieces {
 
 fn limit_ticket(rng: &mut Rng) -> u32 {
     if rng.chance(6) {
-        return rng.pick(&[0, 257, 258, 16_383, 16_384, 65_535]);
+        return rng.pick(&[0, 257, 258, 16_383, 16_384, 65_535, 65_536, 2_097_150, 2_097_151]);
     }
     rng.pick(&[1, 2, 127, 128, 255, 256])
 }

@@ -13,12 +13,15 @@ pub struct Script {
 
 /// Seats that turn up often, and the first that is none.
 const SEATS: [u32; 8] = [0, 1, 1, 2, 2, 3, 31, 32];
-const STRANGE_SEATS: [u32; 6] = [33, 63, 64, 65_536, 1 << 31, u32::MAX];
-const TICKETS: [u32; 12] = [0, 1, 2, 127, 128, 256, 257, 16_383, 16_384, 65_535, 65_536, u32::MAX];
-const BEGUN: [u32; 8] = [0, 1, 255, 65_533, 65_534, 65_535, 65_536, u32::MAX];
+const STRANGE_SEATS: [u32; 7] = [33, 63, 64, 65_536, 2_097_152, 1 << 31, u32::MAX];
+const TICKETS: [u32; 9] = [0, 1, 2, 127, 128, 256, 257, 16_383, 16_384];
+const LONG_TICKETS: [u32; 6] = [65_535, 65_536, 2_097_150, 2_097_151, 2_097_152, u32::MAX];
+const BEGUN: [u32; 11] =
+    [0, 1, 255, 65_533, 65_534, 65_535, 65_536, 2_097_150, 2_097_151, 2_097_152, u32::MAX];
 const KINDS: [u32; 12] = [1, 1, 1, 2, 2, 2, 2, 3, 3, 4, 4, 5];
 const STRANGE_KINDS: [u32; 6] = [0, 6, 22, 256, 258, u32::MAX];
-const RECORDS: [u32; 7] = [0, 1, 127, 128, 4_095, 4_096, u32::MAX];
+const RECORDS: [u32; 11] =
+    [0, 0, 1, 127, 128, 4_095, 4_096, 65_536, 2_097_151, 2_097_152, u32::MAX];
 
 /// Lengths of the two tables of which most are refused.
 const STRANGE_LENGTHS: [(usize, usize); 9] = [
@@ -68,6 +71,10 @@ fn either(rng: &mut Rng, strange: u32, usual_ones: &[u32], strange_ones: &[u32])
     }
 }
 
+fn ticket(rng: &mut Rng) -> u32 {
+    either(rng, 40, &TICKETS, &LONG_TICKETS)
+}
+
 fn lent(rng: &mut Rng) -> Lent {
     let few = rng.between(1, 4) as usize;
     let lengths = if rng.chance(20) { rng.pick(&STRANGE_LENGTHS) } else { (few, few) };
@@ -94,7 +101,7 @@ fn word(rng: &mut Rng) -> u32 {
 fn desk(rng: &mut Rng, released: &[u32]) -> Vec<u32> {
     let mut words = Vec::new();
     for _ in 0..32 {
-        words.push(rng.pick(&TICKETS));
+        words.push(ticket(rng));
         let of_record = !released.is_empty() && rng.chance(50);
         words.push(if of_record { rng.pick(released) } else { word(rng) });
     }
@@ -131,7 +138,7 @@ fn request(rng: &mut Rng, records: u32) -> [u32; 3] {
 fn read(rng: &mut Rng) -> Call {
     let mut rest = rng.some_bytes(9);
     if rng.chance(50) {
-        let (ticket, record) = (rng.pick(&TICKETS), rng.pick(&RECORDS));
+        let (ticket, record) = (ticket(rng), rng.pick(&RECORDS));
         let groups = rng.pick(&[1, 1, 1, 2, 3, 4]);
         rest = [vec![rng.pick(&KINDS) as u8], spell(ticket, 1), spell(record, groups)].concat();
     }
@@ -144,7 +151,7 @@ fn read(rng: &mut Rng) -> Call {
 fn write(rng: &mut Rng) -> Call {
     let kind = either(rng, 10, &KINDS, &STRANGE_KINDS);
     let room = rng.place(10);
-    Call::Write { room, kind, ticket: rng.pick(&TICKETS), record: rng.pick(&RECORDS) }
+    Call::Write { room, kind, ticket: ticket(rng), record: rng.pick(&RECORDS) }
 }
 
 /// The length a call asks for, now and then another.
