@@ -1,5 +1,5 @@
-/* Slices of right and wrong lengths and tickets at their limit, from C: each call serves or refuses them by number. Silent when all is well; under
-   valgrind a step past a slice is an error too, since each is allocated at exactly its size. */
+/* Slices of right and wrong lengths, and tickets at their limit, from C: each call serves or refuses them by number. Silent when
+   all is well; under valgrind a step past a slice is an error too, since each is allocated at exactly its size. */
 #include "saltlicker.h"
 #include <stdio.h>
 #include <stdlib.h>

@@ -1,5 +1,5 @@
 -- Traces from before numbers went to 2,097,151 read as the same events.
-use mathlib.Core.Path.{_≡_, refl, ap, sym, subst, _∙_}
+use mathlib.Core.Path.{_≡_, refl, ap, subst, _∙_}
 use mathlib.Core.Logic.{_↔_}
 use Prim.Native.Nat.{ℕ, _≤_}
 use mathlib.Core.List.{List, [], _∷_, _++_, append-nil, List·Memᴰ, List·Memᴰ·head, List·Memᴰ·tail}
@@ -28,30 +28,29 @@ fair-all : (es : List Event) → ((e : Event) → List·Memᴰ e es → Ranged l
 fair-all [] r = none
 fair-all (e ∷ es) r = more (fair-ranged e .1 (r e (List·Memᴰ·head refl))) (fair-all es (λ d m. r d (List·Memᴰ·tail m)))
 
--- with the limit of today that is what reading says
+-- with the limit of today the events are read to the end
+reads : {es : List Event} {l : List ℕ} → ReadsAs limit es l [] → readAll (length l) l ≡ record { events = es; last = end }
+reads {es} {l} r = ap (λ (k : List ℕ). readAll (length k) k) (r .spelt ∙ append-nil (spellAll es)) ∙ spelled-reads (fair-all es (r .ranged))
+
+-- and that is all that is so read
 pub reads-exactly : (l : List ℕ) → Bytes l → (es : List Event) → (readAll (length l) l ≡ record { events = es; last = end }) ↔ ReadsAs limit es l []
-reads-exactly l by es = (λ e. taken (subst (λ (r : Read). Through l r) e (read-through (length l) l (omega arith) by)), back)
+reads-exactly l by es = (λ e. taken (subst (λ (r : Read). Through l r) e (read-through (length l) l (omega arith) by)), reads)
   where
+    nothing : {rest : List ℕ} → NoEvent rest end → rest ≡ []
+    nothing (ended e) = e
+
     taken : Through l (record { events = es; last = end }) → ReadsAs limit es l []
-    taken t = record { spelt = t .spelt ∙ ap (λ (r : List ℕ). spellAll es ++ r) (nothing (t .stops)); ranged = λ e m. fair-ranged e .0 (fair-each (t .proper) m) }
-      where
-        nothing : {rest : List ℕ} → NoEvent rest end → rest ≡ []
-        nothing (ended e) = e
+    taken t =
+        record { spelt = t .spelt ∙ ap (λ (r : List ℕ). spellAll es ++ r) (nothing (t .stops)); ranged = λ e m. fair-ranged e .0 (fair-each (t .proper) m) }
 
-    back : ReadsAs limit es l [] → readAll (length l) l ≡ record { events = es; last = end }
-    back r =
-        let s : l ≡ spellAll es = r .spelt ∙ append-nil (spellAll es) in
-        ap (λ (k : List ℕ). readAll (length k) k) s ∙ spelled-reads (fair-all es (r .ranged))
-
--- what read under a lower limit is in range still
-wider : {small large : ℕ} {es : List Event} {l rest : List ℕ} → small ≤ large → ReadsAs small es l rest → ReadsAs large es l rest
+-- what reads under a lower limit reads under a higher one
+wider : {low high : ℕ} {es : List Event} {l rest : List ℕ} → low ≤ high → ReadsAs low es l rest → ReadsAs high es l rest
 wider h r = record { spelt = r .spelt; ranged = λ e m. let g = r .ranged e m in record { some = g .some; most = omega arith; few = g .few } }
 
--- OLD TRACES READ AS BEFORE: the events that read under the old limit are read, and then what follows them
-pub old-events : {es : List Event} {l rest : List ℕ} → ReadsAs oldLimit es l rest → readAll (length l) l ≡ onto es (readAll (length rest) rest)
-old-events {es} {l} {rest} r =
-    ap (λ (k : List ℕ). readAll (length k) k) (r .spelt) ∙ trace-onto (fair-all es (wider (omega arith) r .ranged)) rest
+-- OLD TRACES READ AS BEFORE: a trace that read to its end under the old limit reads as the same events, to its end
+pub old-trace : {es : List Event} {l : List ℕ} → ReadsAs oldLimit es l [] → readAll (length l) l ≡ record { events = es; last = end }
+old-trace r = reads (wider (omega arith) r)
 
--- so a trace that read to its end reads to its end
-pub old-trace : {es : List Event} {l : List ℕ} → Bytes l → ReadsAs oldLimit es l [] → readAll (length l) l ≡ record { events = es; last = end }
-old-trace {es} {l} by r = reads-exactly l by es .1 (wider (omega arith) r)
+-- and where more followed, the same events come first, and then what is read of the rest
+pub old-events : {es : List Event} {l rest : List ℕ} → ReadsAs oldLimit es l rest → readAll (length l) l ≡ onto es (readAll (length rest) rest)
+old-events {es} {rest = rest} r = ap (λ (k : List ℕ). readAll (length k) k) (r .spelt) ∙ trace-onto (fair-all es (wider (omega arith) r .ranged)) rest
