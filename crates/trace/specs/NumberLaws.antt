@@ -81,6 +81,12 @@ only {n} (three {a} {b} {c} p q r t u v e) =
     let c′ : n / 16384 ≡ c = omega arith in
     rw (spell-three n (omega arith)) (cc)
 
+-- their number is within the limit
+within-limit : {n : ℕ} {s : List ℕ} → Spelling n s → n ≤ limit
+within-limit (one h) = omega arith
+within-limit (two p q r t e) = omega arith
+within-limit (three p q r t u v e) = omega arith
+
 -- such bytes read as their number, whatever follows, and cut anywhere as 20
 back : {n : ℕ} {s : List ℕ} → Spelling n s → (rest : List ℕ) → readNumber (s ++ rest) ≡ value n (length s)
 unfolding readNumber readSecond readThird judge pick
@@ -107,12 +113,6 @@ number-back n h rest = back (spells n h) rest
 -- cut anywhere it reads as 20
 pub number-cut : (n : ℕ) → n ≤ limit → (k : ℕ) → k < length (spellNumber n) → readNumber (take k (spellNumber n)) ≡ no-value 20
 number-cut n h k l = cut (spells n h) k l
-
--- and are within the limit
-within-limit : {n : ℕ} {s : List ℕ} → Spelling n s → n ≤ limit
-within-limit (one h) = omega arith
-within-limit (two p q r t e) = omega arith
-within-limit (three p q r t u v e) = omega arith
 
 -- bytes of a number at the front stand there
 standing : {n : ℕ} {s : List ℕ} (m : List ℕ) → Spelling n s → length s < 4 → NumberSeen (s ++ m) (value n (length s))
