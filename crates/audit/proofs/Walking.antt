@@ -16,7 +16,7 @@ use Rattle.trace.proofs.Reading as reading-type
 use Rattle.trace.specs.Answers.{number, event, end, no-event, readingSaid}
 use Rattle.trace.specs.Events.{spell, readAt}
 use Rattle.trace.specs.EventLaws.{Whole, event-only}
-use Rattle.trace.specs.Traces.{readAll, all-event}
+use Rattle.trace.specs.Traces.{readAllBy, readAll, all-event}
 use Rattle.trace.specs.declared.Event.{Event}
 use Rattle.trace.specs.declared.Fault.{Fault}
 use Rattle.trace.specs.declared.Reading.{Reading}
@@ -36,19 +36,19 @@ rest fuel l at st = check (readAll fuel l .events) (readAll fuel l .last) at st
 
 -- no event: what is read says it
 rest-ends : (fuel : ℕ) (l : List ℕ) (at : ℕ) (st : State) → readAt l ≡ end → rest fuel l at st ≡ checked (ending end at) st
-unfolding readAll check
+unfolding readAllBy check
 rest-ends zero l at st e = rw e
-rest-ends (suc fuel) l at st e = rw (e, readAll)
+rest-ends (suc fuel) l at st e = rw (e, readAllBy)
 
 rest-fails : (fuel : ℕ) (l : List ℕ) (at k : ℕ) (st : State) → readAt l ≡ no-event k → rest fuel l at st ≡ checked (refused k at) st
-unfolding readAll check
+unfolding readAllBy check
 rest-fails zero l at k st e = rw e
-rest-fails (suc fuel) l at k st e = rw (e, readAll)
+rest-fails (suc fuel) l at k st e = rw (e, readAllBy)
 
 -- an event: it is allowed, or refused
 rest-goes : (fuel : ℕ) (l : List ℕ) (at n : ℕ) (st : State) (e : Event) → 0 < fuel → n ≡ length (spell e) → readAt l ≡ event e n
     → rest fuel l at st ≡ pick (allows st e) (rest (fuel - 1) (drop n l) (at + n) (answered st e .left)) (checked (refused 40 at) st)
-unfolding readAll check
+unfolding readAllBy check
 rest-goes zero l at n st e h i r = absurd (omega arith)
 rest-goes (suc fuel) l at n st e h i r = let d : suc fuel - 1 ≡ fuel = omega arith in rw (all-event fuel l r, d, i)
 

@@ -137,16 +137,16 @@ read-refused l by k = (λ e. taken (subst (λ r. EventSeen l r) e (event-seen l 
     taken (refused c) = c
 
 -- an event is fair exactly when its ticket and record are in their ranges
-both : (t r : ℕ) → (fairPair t r ≡ true) ↔ Ranged limit t r
+both : (t r : ℕ) → (fairPair t r ≡ true) ↔ Ranged t r
 both t r = (
   λ f. let h = fair-pair t r .0 f in let g = fair-ticket t .0 (h .0) in record { some = g .1; most = g .0; few = h .1 },
   λ h. fair-pair t r .1 (fair-ticket t .1 (h .most, h .some), h .few),
 )
 
-alone : (t : ℕ) → (fairTicket t ≡ true) ↔ Ranged limit t 0
+alone : (t : ℕ) → (fairTicket t ≡ true) ↔ Ranged t 0
 alone t = (λ f. let g = fair-ticket t .0 f in record { some = g .1; most = g .0; few = omega arith }, λ h. fair-ticket t .1 (h .most, h .some))
 
-pub fair-ranged : (e : Event) → (fair e ≡ true) ↔ Ranged limit (ticketOf e) (recordOf e)
+pub fair-ranged : (e : Event) → (fair e ≡ true) ↔ Ranged (ticketOf e) (recordOf e)
 fair-ranged (Started t) = alone t
 fair-ranged (Granted t r) = both t r
 fair-ranged (Touched t r) = both t r
@@ -173,7 +173,7 @@ write-refused e room k = (go (puts (fair e) (spell e) room), cause)
     go (full f p) h = let x : 24 ≡ k = cc in subst (λ k. WriteCause k e room) x (no-room (fair-ranged e .0 f) p)
     go (done f p) h = absurd (clash (cc))
 
-    not-fair : ¬ Ranged limit (ticketOf e) (recordOf e) → writeAt e room .says ≡ unwritten 23
+    not-fair : ¬ Ranged (ticketOf e) (recordOf e) → writeAt e room .says ≡ unwritten 23
     not-fair n = ap (λ (w : Wrote). w .says) (sym (put-unfair (fair e) (spell e) room refl (not-iff (fair e) .1 (λ f. n (fair-ranged e .0 f)))))
 
     cause : {k : ℕ} → WriteCause k e room → writeAt e room .says ≡ unwritten k

@@ -69,10 +69,10 @@ recordOf (Touched t r) = r
 recordOf (Released t r) = r
 recordOf (Finished t) = 0
 
--- ticket 1 to the largest, record 0 to 4,095
-pub record Ranged (largest t r : ℕ) : Type 0 where
+-- ticket 1 to 2,097,151, record 0 to 4,095
+pub record Ranged (t r : ℕ) : Type 0 where
   pub some : t ≢ 0
-  pub most : t ≤ largest
+  pub most : t ≤ limit
   pub few : r < records
 
 -- an event cannot be written at the front of a room, and the refusal
@@ -84,4 +84,4 @@ pub data WriteCause : ℕ → Event → List ℕ → Type 0 where
   -- 23: record over 4,095
   large-record : {e : Event} {room : List ℕ} → records ≤ recordOf e → WriteCause 23 e room
   -- 24: after 23, event longer than the room left
-  no-room : {e : Event} {room : List ℕ} → Ranged limit (ticketOf e) (recordOf e) → length room < length (spell e) → WriteCause 24 e room
+  no-room : {e : Event} {room : List ℕ} → Ranged (ticketOf e) (recordOf e) → length room < length (spell e) → WriteCause 24 e room

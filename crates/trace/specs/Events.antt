@@ -94,15 +94,19 @@ unfoldable pub ofPair : (ℕ → ℕ → Event) → PairSaid → ReadingSaid
 ofPair e (pair t r n) = event (e t r) n
 ofPair e (no-pair k) = no-event k
 
+-- the event of a kind byte k, from a ticket t alone or from a ticket and a record p
+abbrev pub ofKind : ℕ → NumberSaid → PairSaid → ReadingSaid
+ofKind k t p =
+    pick (eqb k 1) (ofTicket Started t)
+    (pick (eqb k 2) (ofPair Granted p)
+    (pick (eqb k 3) (ofPair Touched p)
+    (pick (eqb k 4) (ofPair Released p)
+    (pick (eqb k 5) (ofTicket Finished t)
+    (no-event 22)))))
+
 -- the event at the front of l, by its kind byte k
 unfoldable pub byKind : ℕ → List ℕ → ReadingSaid
-byKind k l =
-    pick (eqb k 1) (ofTicket Started (readTicket l))
-    (pick (eqb k 2) (ofPair Granted (readPair l))
-    (pick (eqb k 3) (ofPair Touched (readPair l))
-    (pick (eqb k 4) (ofPair Released (readPair l))
-    (pick (eqb k 5) (ofTicket Finished (readTicket l))
-    (no-event 22)))))
+byKind k l = ofKind k (readTicket l) (readPair l)
 
 -- what stands at the front of the rest of a trace
 unfoldable pub readAt : List ℕ → ReadingSaid

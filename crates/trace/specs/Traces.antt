@@ -36,15 +36,19 @@ onto es r = record { events = es ++ r .events; last = r .last }
 abbrev pub stop : ReadingSaid → Read
 stop x = record { events = []; last = x }
 
--- reading from the front, at most so many events
-unfoldable pub readAll : ℕ → List ℕ → Read
-readAll zero l = stop (readAt l)
-readAll (suc f) l =
-    elim (readAt l) [
-      | event e n ↦ then e (readAll f (drop n l))
+-- reading from the front by a reader of one event, at most so many times
+unfoldable pub readAllBy : (List ℕ → ReadingSaid) → ℕ → List ℕ → Read
+readAllBy read zero l = stop (read l)
+readAllBy read (suc f) l =
+    elim (read l) [
+      | event e n ↦ then e (readAllBy read f (drop n l))
       | end ↦ stop end
       | no-event x ↦ stop (no-event x)
     ]
+
+-- reading a trace from the front, at most so many events
+abbrev pub readAll : ℕ → List ℕ → Read
+readAll = readAllBy readAt
 
 -- the bytes of a trace
 abbrev pub spellAll : List Event → List ℕ
@@ -92,17 +96,17 @@ fair-onto none m = m
 fair-onto (more f a) m = fair-onto a (more f m)
 
 all-end : (f : ℕ) → readAll f [] ≡ stop end
-unfolding readAll readAt
+unfolding readAllBy readAt
 all-end zero = refl
 all-end (suc f) = refl
 
 pub all-event : (f : ℕ) (l : List ℕ) {e : Event} {n : ℕ} → readAt l ≡ event e n → readAll (suc f) l ≡ then e (readAll f (drop n l))
-unfolding readAll
-all-event f l h = rw (h, readAll)
+unfolding readAllBy
+all-event f l h = rw (h, readAllBy)
 
 all-refused : (f : ℕ) (l : List ℕ) {x : ℕ} → readAt l ≡ no-event x → readAll (suc f) l ≡ stop (no-event x)
-unfolding readAll
-all-refused f l h = rw (h, readAll)
+unfolding readAllBy
+all-refused f l h = rw (h, readAllBy)
 
 -- an event and then what follows it
 all-then : (f : ℕ) (e : Event) (m : List ℕ) → fair e ≡ true → readAll (suc f) (spell e ++ m) ≡ then e (readAll f m)
@@ -137,7 +141,7 @@ trace-cut (e ∷ es) (suc k) (suc f) (more a b) h = ⊎-elim inside (behind (tra
 
 -- reading at most as many events as there are bytes reads to the first place where no event stands
 pub read-through : (f : ℕ) (l : List ℕ) → length l ≤ f → Bytes l → Through l (readAll f l)
-unfolding readAll readAt
+unfolding readAllBy readAt
 read-through zero [] h by = record { rest = []; spelt = refl; proper = none; stops = ended refl }
 read-through zero (k ∷ l) h by = absurd (omega arith)
 read-through (suc f) l h by = go (λ n q. read-through f (drop n l) q (bytes-rest n l by)) (readAt l) (event-seen l by)
@@ -209,13 +213,13 @@ fair-apart (d ∷ ds) (more f a) = let (b, c) = fair-apart ds a in (more f b, c)
 
 -- where no event stands, that is what is read, however often
 pub all-cause : (f : ℕ) {k : ℕ} {l : List ℕ} → ReadCause k l → readAll f l ≡ stop (no-event k)
-unfolding readAll
+unfolding readAllBy
 all-cause zero c = ap stop (read-cause c)
 all-cause (suc f) {l = l} c = all-refused f l (read-cause c)
 
 -- the number of readings does not matter where it is at least the length
 pub all-enough : (f g : ℕ) (l : List ℕ) → length l ≤ f → length l ≤ g → readAll f l ≡ readAll g l
-unfolding readAll
+unfolding readAllBy
 all-enough zero g [] h i = all-end zero ∙ sym (all-end g)
 all-enough zero g (k ∷ l) h i = absurd (omega arith)
 all-enough (suc f) zero [] h i = all-end (suc f) ∙ sym (all-end zero)

@@ -71,9 +71,9 @@ numeral-short : (k n : ℕ) → n < 10 ^ suc k → length (numeral n) ≤ suc k
 unfolding numeral
 numeral-short k n h = digits-short 20 k n h
 
--- a number of one byte or more has at most three digits for the first and two for each further one
-number-long : (n : ℕ) → n ≤ limit → (0 < length (spellNumber n)) × (length (numeral n) ≤ 2 * length (spellNumber n) + 1)
-number-long n m =
+-- a number has a byte or more, and at most three digits for the first and two for each further one
+digits-few : (n : ℕ) → n ≤ limit → (0 < length (spellNumber n)) × (length (numeral n) ≤ 2 * length (spellNumber n) + 1)
+digits-few n m =
     ⊎-elim (λ h. rw (spell-one n h) (omega arith, numeral-short 2 n (omega arith)))
     (λ g.
     ⊎-elim (λ h. rw (spell-two n g h) (omega arith, numeral-short 4 n (omega arith))) (λ h. rw (spell-three n h) (omega arith, numeral-short 6 n (omega arith)))
@@ -82,13 +82,13 @@ number-long n m =
 module _ (at : ℕ) (h : at ≤ traceBytes) where
   ticket-long : (w : List ℕ) (t k : ℕ) → length w ≤ 10 → fairTicket t ≡ true → length (ticketLine at w t) ≤ 10 * length (k ∷ spellNumber t)
   unfolding ticketLine lineOf
-  ticket-long w t k s f = simp length-append (omega (arith, numeral-short 4 at (omega arith), number-long t (fair-ticket t .0 f .0)))
+  ticket-long w t k s f = simp length-append (omega (arith, numeral-short 4 at (omega arith), digits-few t (fair-ticket t .0 f .0)))
 
   pair-long : (w : List ℕ) (t r k : ℕ) → length w ≤ 10 → fairPair t r ≡ true → length (pairLine at w t r) ≤ 10 * length (k ∷ (spellNumber t ++ spellNumber r))
   unfolding pairLine lineOf
   pair-long w t r k s f =
       let g = fair-pair t r .0 f in
-      simp length-append (omega (arith, numeral-short 4 at (omega arith), number-long t (fair-ticket t .0 (g .0) .0), number-long r (omega arith)))
+      simp length-append (omega (arith, numeral-short 4 at (omega arith), digits-few t (fair-ticket t .0 (g .0) .0), digits-few r (omega arith)))
 
   -- a line has at most ten bytes for each byte of its event
   event-long : (e : Event) → fair e ≡ true → length (eventLine at e) ≤ 10 * length (spell e)
