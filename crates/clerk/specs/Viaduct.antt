@@ -9,7 +9,7 @@ use Rattle.trace.specs.Events.{asTicket, asRecord as eventRecord, readTicket, a
 use Rattle.desk.specs.Answers.{Said, started, wait, granted, touched, released, finished}
 use Rattle.desk.specs.Step.{fitting, clearing, beginStep, ruled, about, setBit, lockRule, withLock, lockStep, holdRule, touchStep, releaseStep, gone, finishStep, step}
 use Rattle.order.specs.Counting.{all, count, lowest}
-use Rattle.order.specs.Befores.{touches, touched as isTouched, someTouch, before}
+use Rattle.order.specs.Befores.{accesses, accessed, someAccess, before}
 use Rattle.order.specs.Listing.{elem, ready, next, places, complete}
 use Rattle.order.specs.Order.{settled, orderOf}
 use Rattle.order.specs.Walk.{walkFrom, walk}
@@ -31,5 +31,5 @@ said =
 
 -- its eighteen lines: those of the answers, then order 2, 1, 2
 pub viaduct-prints : deskText viaduct ≡ lines said ++ listed 2 (1 ∷ 2 ∷ [])
-unfolding viaduct said pick has with without within spellNumber readNumber asTicket eventRecord readTicket afterTicket eventPair ofTicket eventOf eventBy readAt fitting clearing beginStep ruled about setBit lockRule withLock lockStep holdRule touchStep releaseStep gone finishStep step all count lowest touches isTouched someTouch before elem ready next places complete settled orderOf walkFrom walk afterAll digits numeral lineOf asSeat asRecord readSeat afterSeat readPair ofSeat ofPair byKind readRequest refusedAt line lines ticketLines listed orderLines orderText requestsFrom requestsOf answers closing deskText
+unfolding viaduct said pick has with without within spellNumber readNumber asTicket eventRecord readTicket afterTicket eventPair ofTicket eventOf eventBy readAt fitting clearing beginStep ruled about setBit lockRule withLock lockStep holdRule touchStep releaseStep gone finishStep step all count lowest accesses accessed someAccess before elem ready next places complete settled orderOf walkFrom walk afterAll digits numeral lineOf asSeat asRecord readSeat afterSeat readPair ofSeat ofPair byKind readRequest refusedAt line lines ticketLines listed orderLines orderText requestsFrom requestsOf answers closing deskText
 viaduct-prints = refl

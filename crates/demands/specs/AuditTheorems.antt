@@ -18,9 +18,9 @@ use Rattle.trace.specs.Answers.{event, end}
 use Rattle.trace.specs.Events.{spell, readAt}
 use Rattle.trace.specs.EventLaws.{event-back, event-only}
 use Rattle.trace.specs.CauseLaws.{no-event-number}
-use Rattle.trace.specs.History.{History, Touches, Accesses, Before}
+use Rattle.trace.specs.History.{History, Accesses, Before}
 use Rattle.trace.specs.Traces.{AllFair, none, more, Read, readAll, spellAll, fair-onto, read-through, spelled-reads, spelled-through}
-use Rattle.rules.specs.NoRing.{no-ring, no-ring-of-touches}
+use Rattle.rules.specs.NoRing.{no-ring}
 use Rattle.rules.specs.Junction.{junction, junction-unlawful}
 use Rattle.desk.specs.declared.Request.{Request}
 use Rattle.desk.specs.Limits.{seats}
@@ -173,10 +173,9 @@ module _ (h l : List ℕ) (long : length h ≡ records) (beside : length l ≡ r
     accepted-told : auditOf trace h l .says ≡ accepted → toldBy trace ≡ reverse (tables-hold .stopped .events)
     accepted-told e = ap toldBy (accepted-whole e) ∙ ap (λ (r : Read). reverse (r .events)) (spelled-reads (oldest-fair (tables-hold .stopped .events) (tables-hold .stopped .written)))
 
-    -- "every accepted trace has befores without a ring": also where a grant counts as well as a touch.
-    pub accepted-no-ring : auditOf trace h l .says ≡ accepted → (¬ Ring (Before Touches (toldBy trace))) × (¬ Ring (Before Accesses (toldBy trace)))
-    accepted-no-ring e =
-        let lawful = written-lawful (subst Written (sym (accepted-told e)) (tables-hold .stopped .written)) in (no-ring-of-touches lawful, no-ring lawful)
+    -- "every accepted trace has befores without a ring".
+    pub accepted-no-ring : auditOf trace h l .says ≡ accepted → ¬ Ring (Before Accesses (toldBy trace))
+    accepted-no-ring e = no-ring (written-lawful (subst Written (sym (accepted-told e)) (tables-hold .stopped .written)))
 
     -- So the order call never says 28 of an accepted trace.
     pub accepted-ordered : auditOf trace h l .says ≡ accepted → (table list : List ℕ) → orderOf trace table list .says ≢ unordered 28 0
@@ -185,7 +184,7 @@ module _ (h l : List ℕ) (long : length h ≡ records) (beside : length l ≡ r
         let (es, b, q) = walk-whole by (a .walked) in
         let whole-trace : trace ≡ spellAll es = b .spelt ∙ append-nil (spellAll es) in
         let told : toldBy trace ≡ past = ap toldBy whole-trace ∙ ap (λ (r : Read). reverse (r .events)) (spelled-reads (near-all (b .near))) ∙ sym q in
-        accepted-no-ring e .0 (subst (λ (k : History). Ring (Before Touches k)) (sym told) r)
+        accepted-no-ring e (subst (λ (k : History). Ring (Before Accesses k)) (sym told) r)
 
 -- What the lent tables held does not matter: two pairs of 4,096 words give the same answer and are left the same.
 pub contents-nothing : (trace h l h′ l′ : List ℕ) → length h ≡ records → length l ≡ records → length h′ ≡ records → length l′ ≡ records → auditOf trace h l ≡ auditOf trace h′ l′

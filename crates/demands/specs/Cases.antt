@@ -1,11 +1,12 @@
 -- The paper's cases that are marked P, as a single table under a single statement; and a row for each kind of event.
-use Prim.Native.Nat.{ℕ}
-use mathlib.Core.Path.{_≡_, refl, ap}
+use Prim.Native.Nat.{ℕ, _-_, _≤_}
+use mathlib.Core.Path.{_≡_, refl}
 use mathlib.Core.List.{List, [], _∷_, _++_}
 use native.Mathlib.Omega.{arith}
 use lib.ListN.{length, replicate}
 use Rattle.words.specs.Tests.{pick}
 use Rattle.words.specs.Word.{has, with, without, within}
+use Rattle.trace.specs.History.{History}
 use Rattle.trace.specs.declared.Event.{Event}
 use Rattle.trace.specs.declared.Event.the-variants.{Started, Granted, Touched, Released, Finished}
 use Rattle.trace.specs.Answers.{value, no-value, event, no-event}
@@ -16,12 +17,12 @@ use Rattle.desk.specs.declared.Request.the-variants.{Begin, Lock, Release, Fini
 use Rattle.desk.specs.Limits.{seats}
 use Rattle.desk.specs.Answers.{Said, granted, wait, refused}
 use Rattle.desk.specs.Step.{Outcome, seatAt, fitting, clearing, beginStep, ruled, about, setBit, lockRule, withLock, lockStep, holdRule, releaseStep, gone, finishStep, step}
-use Rattle.order.specs.Answers.{ordered, Call}
+use Rattle.order.specs.Answers.{ordered}
 use Rattle.order.specs.Counting.{all, count, lowest}
 use Rattle.order.specs.Listing.{elem, ready, next, places, complete}
-use Rattle.order.specs.Befores.{touches, touched, someTouch, before}
-use Rattle.order.specs.Limits.{tickets}
-use Rattle.order.specs.Walk.{walkFrom, walk}
+use Rattle.order.specs.Befores.{accesses, accessed, someAccess, before}
+use Rattle.order.specs.Limits.{tickets, longest}
+use Rattle.order.specs.Walk.{whole, walkFrom, walk}
 use Rattle.order.specs.Causes.{Fit}
 use Rattle.order.specs.Order.{settled, orderOf}
 use Rattle.order.specs.OrderLaws.{order-settles}
@@ -39,8 +40,8 @@ pub data Row : Type 0 where
   tells : List ℕ → Event → Row
   -- these bytes read as no event, and the refusal
   tells-none : List ℕ → ℕ → Row
-  -- a trace has this order, and where that is 0 its list is all zeros
-  orders-none : List ℕ → Row
+  -- a trace has this order: these tickets, and zeros after
+  orders : List ℕ → List ℕ → Row
 
 -- the outcome of a LOCK after some requests
 abbrev pub lockAfter : List Request → ℕ → ℕ → Outcome
@@ -53,7 +54,7 @@ Holds (spells n bytes) = (spellNumber n ≡ bytes) × (readNumber bytes ≡ valu
 Holds (spells-none bytes k) = readNumber bytes ≡ no-value k
 Holds (tells bytes e) = (spell e ≡ bytes) × (readAt bytes ≡ event e (length bytes))
 Holds (tells-none bytes k) = readAt bytes ≡ no-event k
-Holds (orders-none trace) = (table list : List ℕ) → Fit table list → (orderOf trace table list .says ≡ ordered 0) × (orderOf trace table list .list ≡ replicate tickets 0)
+Holds (orders trace ts) = (table list : List ℕ) → Fit table list → (orderOf trace table list .says ≡ ordered (length ts)) × (orderOf trace table list .list ≡ ts ++ replicate (tickets - length ts) 0)
 
 -- every row of a table holds
 abbrev pub All : List Row → Type 0
@@ -97,7 +98,11 @@ table =
     -- not marked P: 2,097,152 takes four bytes
     ∷ spells-none (0x80 ∷ 0x80 ∷ 0x80 ∷ 0x01 ∷ []) 21
     -- empty trace: order 0
-    ∷ orders-none []
+    ∷ orders [] []
+    -- not marked P: ticket 2 touched before 1
+    ∷ orders (0x03 ∷ 0x02 ∷ 0x05 ∷ 0x03 ∷ 0x01 ∷ 0x05 ∷ []) (2 ∷ 1 ∷ [])
+    -- not marked P: ticket 2 only locked, before 1 touched
+    ∷ orders (0x02 ∷ 0x02 ∷ 0x05 ∷ 0x03 ∷ 0x01 ∷ 0x05 ∷ []) (2 ∷ 1 ∷ [])
     -- not marked P: each kind of event, and no other
     ∷ tells (0x01 ∷ 0x07 ∷ []) (Started 7)
     ∷ tells (0x02 ∷ 0x07 ∷ 0x05 ∷ []) (Granted 7 5)
@@ -108,14 +113,13 @@ table =
     ∷ tells-none (0x06 ∷ 0x07 ∷ []) 22
     ∷ []
 
--- the empty trace, whatever the table and the list that are lent
-empty-trace : (t l : List ℕ) → Fit t l → (orderOf [] t l .says ≡ ordered 0) × (orderOf [] t l .list ≡ replicate tickets 0)
-unfolding settled complete all elem places next lowest ready count before someTouch touched touches walk walkFrom readAt pick
-empty-trace t l f =
-    let e = order-settles {trace = []} {h = []} (record { fit = f; short = omega arith; walked = refl }) in
-    (ap (λ (c : Call). c .says) e, ap (λ (c : Call). c .list) e)
+-- a trace that is walked whole, whatever the table and the list that are lent
+settled-so : (trace : List ℕ) {xs : List ℕ} {h : History} {K : ℕ} → length trace ≤ longest → walk trace ≡ whole h
+    → settled (before (accesses h)) (someAccess (accesses h)) .says ≡ ordered K → settled (before (accesses h)) (someAccess (accesses h)) .list ≡ xs
+    → (t l : List ℕ) → Fit t l → (orderOf trace t l .says ≡ ordered K) × (orderOf trace t l .list ≡ xs)
+settled-so trace short w says list t l f = rw (order-settles (record { fit = f; short = short; walked = w })) (says, list)
 
 -- every case of the table holds
 pub cases : All table
-unfolding afterAll pick fitting clearing beginStep ruled about setBit lockRule withLock lockStep holdRule releaseStep gone finishStep step has with without within spellNumber judge readThird readSecond readNumber asTicket asRecord readTicket afterTicket readPair ofTicket ofPair byKind readAt
-cases = ((refl, refl), ((refl, refl), ((refl, refl), ((refl, refl), ((refl, refl), ((refl, refl), ((refl, refl), ((refl, refl), ((refl, refl), ((refl, refl), ((refl, refl), ((refl, refl), ((refl, refl), ((refl, refl), ((refl, refl), ((refl, refl), (refl, (refl, (refl, (empty-trace, ((refl, refl), ((refl, refl), ((refl, refl), ((refl, refl), ((refl, refl), (refl, (refl, tt)))))))))))))))))))))))))))
+unfolding afterAll pick fitting clearing beginStep ruled about setBit lockRule withLock lockStep holdRule releaseStep gone finishStep step has with without within spellNumber judge readThird readSecond readNumber asTicket asRecord readTicket afterTicket readPair ofTicket ofPair byKind readAt settled complete all elem places next lowest ready count before someAccess accessed accesses walk walkFrom
+cases = ((refl, refl), ((refl, refl), ((refl, refl), ((refl, refl), ((refl, refl), ((refl, refl), ((refl, refl), ((refl, refl), ((refl, refl), ((refl, refl), ((refl, refl), ((refl, refl), ((refl, refl), ((refl, refl), ((refl, refl), ((refl, refl), (refl, (refl, (refl, (settled-so _ (omega arith) refl refl refl, (settled-so _ (omega arith) refl refl refl, (settled-so _ (omega arith) refl refl refl, ((refl, refl), ((refl, refl), ((refl, refl), ((refl, refl), ((refl, refl), (refl, (refl, tt)))))))))))))))))))))))))))))

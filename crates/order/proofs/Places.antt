@@ -22,28 +22,28 @@ use Rattle.order.proofs.Rows.{same-ticket}
 use Rattle.order.proofs.Ready.{row-all}
 
 -- the next ticket is at most 256
-pub next-le : (befores touching listed : List ℕ) → nextIn befores touching listed ≤ tickets
+pub next-le : (befores due listed : List ℕ) → nextIn befores due listed ≤ tickets
 unfolding nextIn
-next-le befores touching listed = lowest-le tickets (readyIn befores touching listed)
+next-le befores due listed = lowest-le tickets (readyIn befores due listed)
 
-module _ (befores touching : List ℕ) where
+module _ (befores due : List ℕ) where
   -- the first p places
   abbrev P : ℕ → List ℕ
-  P p = placesIn befores touching p
+  P p = placesIn befores due p
 
   -- the ticket at place p, or 0
   abbrev N : ℕ → ℕ
-  N p = next tickets (hasBefore befores) (hasTicket touching) (P p)
+  N p = next tickets (hasBefore befores) (hasTicket due) (P p)
 
   -- past the places there are zeros
   place-none : (p q : ℕ) → p ≤ q → getD (P p) q 0 ≡ 0
-  place-none p q h = List·getD-eq-default (P p) 0 (omega (arith, places-length tickets (hasBefore befores) (hasTicket touching) p))
+  place-none p q h = List·getD-eq-default (P p) 0 (omega (arith, places-length tickets (hasBefore befores) (hasTicket due) p))
 
   place-at : (p q : ℕ) → q < p → getD (P p) q 0 ≡ N q
-  place-at p q h = places-at tickets (hasBefore befores) (hasTicket touching) q p h
+  place-at p q h = places-at tickets (hasBefore befores) (hasTicket due) q p h
 
   -- before the first place
-  pub filled-none : {listed list : List ℕ} → listed ≡ replicate 8 0 → list ≡ replicate tickets 0 → Filled befores touching listed list 0
+  pub filled-none : {listed list : List ℕ} → listed ≡ replicate 8 0 → list ≡ replicate tickets 0 → Filled befores due listed list 0
   unfolding places elem
   filled-none e f =
       record {
@@ -53,13 +53,13 @@ module _ (befores touching : List ℕ) where
         listed-says = λ i h. ap (λ (l : List ℕ). hasTicket l i) e ∙ zeros-bit 8 (i - 1);
       }
 
-  module _ {listed list : List ℕ} {p : ℕ} (f : Filled befores touching listed list p) where
+  module _ {listed list : List ℕ} {p : ℕ} (f : Filled befores due listed list p) where
     -- the code's next ticket is the place's
-    next-place : nextIn befores touching listed ≡ N p
+    next-place : nextIn befores due listed ≡ N p
     unfolding nextIn readyIn next
     next-place =
-        lowest-ext tickets (ready tickets (hasBefore befores) (hasTicket touching) (hasTicket listed)) (ready tickets (hasBefore befores) (hasTicket touching) (λ i. elem i (P p)))
-        (ready-ext tickets (hasBefore befores) (hasTicket touching) (hasTicket listed) (λ i. elem i (P p)) (f .listed-says))
+        lowest-ext tickets (ready tickets (hasBefore befores) (hasTicket due) (hasTicket listed)) (ready tickets (hasBefore befores) (hasTicket due) (λ i. elem i (P p)))
+        (ready-ext tickets (hasBefore befores) (hasTicket due) (hasTicket listed) (λ i. elem i (P p)) (f .listed-says))
 
     -- one place more
     more-list : (q : ℕ) → p < tickets → getD (set list p (N p)) q 0 ≡ getD (P (suc p)) q 0
@@ -74,14 +74,14 @@ module _ (befores touching : List ℕ) where
     more-listed : (i : ℕ) → In tickets i → (N p ≡ 0 → ⊥) → hasTicket (withBit listed (N p - 1)) i ≡ elem i (P (suc p))
     unfolding places
     more-listed i h nz =
-        let le : N p ≤ tickets = rw next-place at (next-le befores touching listed) in
+        let le : N p ≤ tickets = rw next-place at (next-le befores due listed) in
         bit-with listed (N p - 1) (i - 1) (omega (arith, f .listed-long))
         ∙ ap₂ _||_ (f .listed-says i h) (same-ticket i (N p) h (omega arith))
         ∙ sym (elem-snoc i (P p) (N p))
 
     -- so p + 1 places are filled
-    pub filled-more : {t : ℕ} {listed′ : List ℕ} → t ≡ nextIn befores touching listed → (t ≡ 0 → ⊥) → listed′ ≡ withBit listed (t - 1) → p < tickets
-        → Filled befores touching listed′ (set list p t) (p + 1)
+    pub filled-more : {t : ℕ} {listed′ : List ℕ} → t ≡ nextIn befores due listed → (t ≡ 0 → ⊥) → listed′ ≡ withBit listed (t - 1) → p < tickets
+        → Filled befores due listed′ (set list p t) (p + 1)
     filled-more {t} e nz l h =
         let g : t ≡ N p = e ∙ next-place in
         let z : N p ≡ 0 → ⊥ = λ y. nz (g ∙ y) in
@@ -94,31 +94,31 @@ module _ (befores touching : List ℕ) where
         }
 
     -- no ticket is next: the places that are left are 0
-    pub filled-stop : {t : ℕ} → t ≡ nextIn befores touching listed → t ≡ 0 → p ≤ tickets → Filled befores touching listed list tickets
+    pub filled-stop : {t : ℕ} → t ≡ nextIn befores due listed → t ≡ 0 → p ≤ tickets → Filled befores due listed list tickets
     filled-stop e y h =
         let z : N p ≡ 0 = sym next-place ∙ sym e ∙ y in
         record {
           list-long = f .list-long;
           listed-long = f .listed-long;
           list-says = λ q. f .list-says q ∙ same z q (below q p) (below q tickets);
-          listed-says = λ i k. f .listed-says i k ∙ sym (still-listed tickets (hasBefore befores) (hasTicket touching) p tickets z h i k);
+          listed-says = λ i k. f .listed-says i k ∙ sym (still-listed tickets (hasBefore befores) (hasTicket due) p tickets z h i k);
         }
       where
         same : N p ≡ 0 → (q : ℕ) → (q < p) ⊎ (p ≤ q) → (q < tickets) ⊎ (tickets ≤ q) → getD (P p) q 0 ≡ getD (P tickets) q 0
         same z q (inl l) w = place-at p q l ∙ sym (place-at tickets q (omega arith))
-        same z q (inr l) (inl w) = place-none p q l ∙ sym (place-at tickets q w ∙ still tickets (hasBefore befores) (hasTicket touching) p q z l)
+        same z q (inr l) (inl w) = place-none p q l ∙ sym (place-at tickets q w ∙ still tickets (hasBefore befores) (hasTicket due) p q z l)
         same z q (inr l) (inr w) = place-none p q l ∙ sym (place-none tickets q w)
 
   -- all places are passed
-  module _ {listed list : List ℕ} (f : Filled befores touching listed list tickets) where
+  module _ {listed list : List ℕ} (f : Filled befores due listed list tickets) where
     pub filled-list : list ≡ P tickets
     filled-list =
-        ext-getD 0 list (P tickets) (f .list-long ∙ sym (places-length tickets (hasBefore befores) (hasTicket touching) tickets)) (λ q h. f .list-says q)
+        ext-getD 0 list (P tickets) (f .list-long ∙ sym (places-length tickets (hasBefore befores) (hasTicket due) tickets)) (λ q h. f .list-says q)
 
     -- the code's last test
-    pub within-complete : ((i : ℕ) → getD touching i 0 < 2 ^ 32) → withinWords 8 touching 0 listed ≡ complete tickets (hasBefore befores) (hasTicket touching)
+    pub within-complete : ((i : ℕ) → getD due i 0 < 2 ^ 32) → withinWords 8 due 0 listed ≡ complete tickets (hasBefore befores) (hasTicket due)
     unfolding complete
     within-complete small =
-        row-all touching 0 listed (λ i l. small (8 * 0 + i))
-        ∙ all-ext tickets (λ i. not (hasBefore touching i (0 + 1)) || hasTicket listed i) (λ i. not (hasTicket touching i) || elem i (P tickets))
-        (λ i k. ap₂ (λ (x y : Bool). not x || y) (ap (bit touching) (omega arith)) (f .listed-says i k))
+        row-all due 0 listed (λ i l. small (8 * 0 + i))
+        ∙ all-ext tickets (λ i. not (hasBefore due i (0 + 1)) || hasTicket listed i) (λ i. not (hasTicket due i) || elem i (P tickets))
+        (λ i k. ap₂ (λ (x y : Bool). not x || y) (ap (bit due) (omega arith)) (f .listed-says i k))

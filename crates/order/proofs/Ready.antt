@@ -42,40 +42,40 @@ row-all rows t row small = same-test (withinWords 8 rows (8 * t) row) (all ticke
         (all-at tickets (λ i. not (hasBefore rows i (t + 1)) || hasTicket row i) h (k + 1) (omega arith))
         (ap (bit rows) (sym (at (k + 1)) ∙ ap (λ (x : ℕ). 32 * (8 * t) + x) (sym e)) ∙ p))
 
-module _ (befores touching listed : List ℕ) (t : ℕ) where
-  -- a ticket without a touch is not ready
-  pub ready-idle : bit touching t ≡ false → false ≡ readyIn befores touching listed (t + 1)
+module _ (befores due listed : List ℕ) (t : ℕ) where
+  -- a ticket without an access is not ready
+  pub ready-idle : bit due t ≡ false → false ≡ readyIn befores due listed (t + 1)
   unfolding readyIn ready
-  ready-idle h = rw (ticket-bit touching t ∙ h)
+  ready-idle h = rw (ticket-bit due t ∙ h)
 
   -- nor is one that is listed
-  pub ready-listed : bit listed t ≡ true → false ≡ readyIn befores touching listed (t + 1)
+  pub ready-listed : bit listed t ≡ true → false ≡ readyIn befores due listed (t + 1)
   unfolding readyIn ready
-  ready-listed h = rw (ticket-bit listed t ∙ h) (sym (and-false (hasTicket touching (t + 1))))
+  ready-listed h = rw (ticket-bit listed t ∙ h) (sym (and-false (hasTicket due (t + 1))))
 
   -- any other is if its befores lie within what is listed
-  pub ready-within : ((i : ℕ) → getD befores i 0 < 2 ^ 32) → bit touching t ≡ true → bit listed t ≡ false
-      → withinWords 8 befores (8 * t) listed ≡ readyIn befores touching listed (t + 1)
+  pub ready-within : ((i : ℕ) → getD befores i 0 < 2 ^ 32) → bit due t ≡ true → bit listed t ≡ false
+      → withinWords 8 befores (8 * t) listed ≡ readyIn befores due listed (t + 1)
   unfolding readyIn ready
-  ready-within small h g = rw (ticket-bit touching t ∙ h, ticket-bit listed t ∙ g) (row-all befores t listed (λ i l. small (8 * t + i)))
+  ready-within small h g = rw (ticket-bit due t ∙ h, ticket-bit listed t ∙ g) (row-all befores t listed (λ i l. small (8 * t + i)))
 
 -- none of the tickets passed is ready: the next is t + 1, or there is none
-module _ (befores touching listed : List ℕ) where
+module _ (befores due listed : List ℕ) where
   -- ticket i is bit i - 1
-  passed : (t i : ℕ) → ((k : ℕ) → k < t → readyIn befores touching listed (k + 1) ≡ false) → 1 ≤ i → i ≤ t → readyIn befores touching listed i ≡ false
-  passed t i none l h = let e : i ≡ (i - 1) + 1 = omega arith in ap (readyIn befores touching listed) e ∙ none (i - 1) (omega arith)
+  passed : (t i : ℕ) → ((k : ℕ) → k < t → readyIn befores due listed (k + 1) ≡ false) → 1 ≤ i → i ≤ t → readyIn befores due listed i ≡ false
+  passed t i none l h = let e : i ≡ (i - 1) + 1 = omega arith in ap (readyIn befores due listed) e ∙ none (i - 1) (omega arith)
 
   -- the first that is ready is the next
-  pub next-found : (t : ℕ) → t < tickets → ((k : ℕ) → k < t → readyIn befores touching listed (k + 1) ≡ false) → readyIn befores touching listed (t + 1) ≡ true
-      → t + 1 ≡ nextIn befores touching listed
+  pub next-found : (t : ℕ) → t < tickets → ((k : ℕ) → k < t → readyIn befores due listed (k + 1) ≡ false) → readyIn befores due listed (t + 1) ≡ true
+      → t + 1 ≡ nextIn befores due listed
   unfolding nextIn
   next-found t l none h =
-      sym (lowest-is tickets (readyIn befores touching listed) (t + 1) (record { within = omega arith; is = h; none-below = λ i k q. passed t i none (k .low) (omega arith) }))
+      sym (lowest-is tickets (readyIn befores due listed) (t + 1) (record { within = omega arith; is = h; none-below = λ i k q. passed t i none (k .low) (omega arith) }))
 
   -- where none is there is no next
-  pub next-none : (t : ℕ) → tickets ≤ t → ((k : ℕ) → k < t → readyIn befores touching listed (k + 1) ≡ false) → 0 ≡ nextIn befores touching listed
+  pub next-none : (t : ℕ) → tickets ≤ t → ((k : ℕ) → k < t → readyIn befores due listed (k + 1) ≡ false) → 0 ≡ nextIn befores due listed
   unfolding nextIn
-  next-none t l none = sym (lowest-none tickets (readyIn befores touching listed) (λ i k. passed t i none (k .low) (omega arith)))
+  next-none t l none = sym (lowest-none tickets (readyIn befores due listed) (λ i k. passed t i none (k .low) (omega arith)))
 
 -- one more ticket is passed in counting
 pub count-yes : (t : ℕ) (row : List ℕ) → bit row t ≡ true → count (t + 1) (hasTicket row) ≡ count t (hasTicket row) + 1

@@ -25,7 +25,7 @@ use Rattle.trace.specs.declared.Reading.the-variants.{Found, Unread as NoEvent}
 use Rattle.order.specs.Limits.{tickets}
 use Rattle.order.specs.Answers.{called}
 use Rattle.order.specs.Counting.{In}
-use Rattle.order.specs.Befores.{counted, touches}
+use Rattle.order.specs.Befores.{counted, accesses}
 use Rattle.order.specs.Causes.{Fit}
 use Rattle.order.specs.Walk.{Walked, walkBy, walkFrom, walk}
 use Rattle.order.specs.WalkLaws.{near-event}
@@ -36,22 +36,22 @@ use Rattle.order.specs.declared.Answer.the-variants.{Unread, FarTicket}
 use Rattle.order.proofs.Settled.{settled-rows}
 
 -- the loop is at an offset; nothing is written to table and list, which came as table₀ and list₀
-pub record Walking (trace table₀ list₀ touchers befores touching table list : List ℕ) (at : ℕ) : Type 0 where
+pub record Walking (trace table₀ list₀ accessors befores due table list : List ℕ) (at : ℕ) : Type 0 where
   pub past : History
   pub fuel : ℕ
   pub within : at ≤ length trace
   pub enough : length trace < at + fuel
   pub bytes : Bytes trace
-  pub rows : Rows (touches past) touchers befores touching
+  pub rows : Rows (accesses past) accessors befores due
   pub same : walkFrom fuel (drop at trace) at past ≡ walk trace
   pub table-same : table ≡ table₀
   pub list-same : list ≡ list₀
   pub fit : Fit table list
 
 -- before the first event
-pub walking-start : {trace table list touchers befores touching : List ℕ} → Bytes trace → Rows [] touchers befores touching → Fit table list
-    → Walking trace table list touchers befores touching table list 0
-unfolding walk touches
+pub walking-start : {trace table list accessors befores due : List ℕ} → Bytes trace → Rows [] accessors befores due → Fit table list
+    → Walking trace table list accessors befores due table list 0
+unfolding walk accesses
 walking-start {trace} by k f =
     record { past = []; fuel = suc (length trace); within = omega arith; enough = omega arith; bytes = by; rows = k; same = refl; table-same = refl; list-same = refl; fit = f }
 
@@ -62,7 +62,7 @@ unfolding walkFrom
 walk-reads zero l at h lt q = absurd (omega arith)
 walk-reads (suc f) l at h lt q = let e : suc f - 1 ≡ f = omega arith in rw (e, q)
 
-module _ {trace table₀ list₀ touchers befores touching table list : List ℕ} {at : ℕ} (w : Walking trace table₀ list₀ touchers befores touching table list at)
+module _ {trace table₀ list₀ accessors befores due table list : List ℕ} {at : ℕ} (w : Walking trace table₀ list₀ accessors befores due table list at)
     (got : Reading) (said : readingSaid got ≡ readAt (take (length trace - at) (drop at trace))) where
   -- what the walk makes of it
   goes : {r : ReadingSaid} → readingSaid got ≡ r → walk trace ≡ walkBy r at (w .past) (λ e n. walkFrom (w .fuel - 1) (drop n (drop at trace)) (at + n) (e ∷ w .past))
@@ -76,7 +76,7 @@ module _ {trace table₀ list₀ touchers befores touching table list : List ℕ
 
   -- nothing is left, so the order is settled
   pub walking-end : (a : Answer) {table′ list′ : List ℕ} → OneOf (1 ∷ 2 ∷ []) (tagOf reading-type.the-type got) → OneOf (0 ∷ 1 ∷ []) (tagOf reading-type.the-type got)
-      → called a table′ list′ ≡ settled (hasBefore befores) (hasTicket touching) → called a table′ list′ ≡ orderBy (walk trace) table₀ list₀
+      → called a table′ list′ ≡ settled (hasBefore befores) (hasTicket due) → called a table′ list′ ≡ orderBy (walk trace) table₀ list₀
   walking-end a k l s = s ∙ settled-rows (w .rows) ∙ sym (ap (λ (v : Walked). orderBy v table₀ list₀) (goes (ap readingSaid (at-end got k l))))
 
   -- an event reads
@@ -99,9 +99,9 @@ module _ {trace table₀ list₀ touchers befores touching table list : List ℕ
     walking-far i t = rw (goes (ap readingSaid is), lt-ltb tickets (ticketOf e) (omega arith), w .table-same, w .list-same)
 
     -- with another the walk goes on behind it
-    pub walking-on : {touchers′ befores′ touching′ : List ℕ} {t : ℕ} → t ≡ ticketOf e → t ≤ tickets → Takes (counted e) touchers befores touching touchers′ befores′ touching′
-        → Walking trace table₀ list₀ touchers′ befores′ touching′ table list (at + n)
-    unfolding touches pick
+    pub walking-on : {accessors′ befores′ due′ : List ℕ} {t : ℕ} → t ≡ ticketOf e → t ≤ tickets → Takes (counted e) accessors befores due accessors′ befores′ due′
+        → Walking trace table₀ list₀ accessors′ befores′ due′ table list (at + n)
+    unfolding accesses pick
     walking-on i t k =
         let f = event-fits in
         let a = w .within in
@@ -112,7 +112,7 @@ module _ {trace table₀ list₀ touchers befores touching table list : List ℕ
           within = f .1;
           enough = omega arith;
           bytes = w .bytes;
-          rows = k (touches (w .past)) (w .rows);
+          rows = k (accesses (w .past)) (w .rows);
           same =
               ap (λ (l : List ℕ). walkFrom (w .fuel - 1) l (at + n) (e ∷ w .past)) (sym (drop-drop n at trace))
               ∙ sym (rw (le-ltb tickets (ticketOf e) (omega arith)) at (goes (ap readingSaid is)));

@@ -9,7 +9,7 @@ use Rattle.trace.specs.Answers.{event}
 use Rattle.trace.specs.Events.{readAt, fair}
 use Rattle.trace.specs.Causes.{ReadCause, ticketOf}
 use Rattle.trace.specs.Traces.{spellAll}
-use Rattle.trace.specs.History.{History, Touches, Before}
+use Rattle.trace.specs.History.{History, Accesses, Before}
 use Rattle.trace.specs.declared.Event.{Event}
 use Rattle.order.specs.Limits.{tickets, tableWords, longest}
 use Rattle.order.specs.Walk.{whole, walk}
@@ -49,5 +49,5 @@ pub data OrderCause (trace table list : List ℕ) : ℕ → ℕ → Type 0 where
       → readAt rest ≡ event e n → tickets < ticketOf e
       → OrderCause trace table list 27 (length (spellAll es))
   -- 28: no event is faulty, and the befores close a ring
-  ring : {es : List Event} → Fit table list → length trace ≤ longest → Begins trace es [] → Ring (Before Touches (reverse es))
+  ring : {es : List Event} → Fit table list → length trace ≤ longest → Begins trace es [] → Ring (Before Accesses (reverse es))
       → OrderCause trace table list 28 0

@@ -16,7 +16,7 @@ use Rattle.order.specs.Limits.{tickets, tableWords, longest}
 use Rattle.order.specs.Answers.{Call, ordered, refused}
 use Rattle.order.specs.Counting.{In, count}
 use Rattle.order.specs.Listing.{places, complete}
-use Rattle.order.specs.Befores.{touches, someTouch, before}
+use Rattle.order.specs.Befores.{accesses, someAccess, before}
 use Rattle.order.specs.Walk.{Walked, whole, faulty, walk}
 use Rattle.order.specs.Order.{tableBy, settled, allListed, countOf, tableOf, listOf, orderBy, orderOf}
 use Rattle.order.specs.Causes.{Fit, Accepted}
@@ -57,7 +57,7 @@ pub data Went (trace table list : List ℕ) : Call → Type 0 where
       → Went trace table list (record { says = ordered (countOf h); table = tableOf h; list = listOf h })
 
 -- a call that is accepted is settled
-pub order-settles : {trace table list : List ℕ} {h : History} → Accepted trace table list h → orderOf trace table list ≡ settled (before (touches h)) (someTouch (touches h))
+pub order-settles : {trace table list : List ℕ} {h : History} → Accepted trace table list h → orderOf trace table list ≡ settled (before (accesses h)) (someAccess (accesses h))
 order-settles {trace} {table} {list} a = order-walks trace (a .fit) (a .short) ∙ ap (λ (w : Walked). orderBy w table list) (a .walked)
 
 -- its table holds the befores, listed or not
@@ -88,7 +88,7 @@ settled-ring b m e = rw e
 -- so it is listed or has a ring
 pub settles : {trace table list : List ℕ} {h : History} → Accepted trace table list h → Went trace table list (orderOf trace table list)
 settles {h = h} a =
-    ⊎-elim (λ e. rw (order-settles a, settled-all (before (touches h)) (someTouch (touches h)) e) (in-order a e)) (λ e. rw (order-settles a, settled-ring (before (touches h)) (someTouch (touches h)) e) (ringed a e))
+    ⊎-elim (λ e. rw (order-settles a, settled-all (before (accesses h)) (someAccess (accesses h)) e) (in-order a e)) (λ e. rw (order-settles a, settled-ring (before (accesses h)) (someAccess (accesses h)) e) (ringed a e))
     (which (allListed h))
 
 -- every call comes to one of these ends

@@ -222,7 +222,7 @@ module _ (n : ℕ) (b : ℕ → ℕ → Bool) (m : ℕ → Bool) where
       ∙ getD-at (P p) (N p) [] 0 p (places-length p)
 
   -- ---- in the paper's words: b and m are tests of B and T, the befores are of tickets that are to be listed, and those are of 1 to n
-  module _ {B : ℕ → ℕ → Type 0} {T : ℕ → Type 0} (before : (i j : ℕ) → (b i j ≡ true) ↔ B i j) (touch : (i : ℕ) → (m i ≡ true) ↔ T i)
+  module _ {B : ℕ → ℕ → Type 0} {T : ℕ → Type 0} (before : (i j : ℕ) → (b i j ≡ true) ↔ B i j) (due : (i : ℕ) → (m i ≡ true) ↔ T i)
       (src : (i j : ℕ) → B i j → T i) (dst : (i j : ℕ) → B i j → T j) (rng : (i : ℕ) → T i → In n i) where
     -- what comes before a listed ticket was listed before it
     down : {i j : ℕ} → B i j → (k : ℕ) → Listed (suc k) j ≡ true → Listed k i ≡ true
@@ -251,7 +251,7 @@ module _ (n : ℕ) (b : ℕ → ℕ → Bool) (m : ℕ → Bool) where
     -- where all are listed, each is
     listed-all : complete n b m ≡ true → (i : ℕ) → T i → Listed n i ≡ true
     unfolding complete
-    listed-all done i t = imp-iff (m i) (Listed n i) .0 (all-at n (λ i. not (m i) || Listed n i) done i (rng i t)) (touch i .1 t)
+    listed-all done i t = imp-iff (m i) (Listed n i) .0 (all-at n (λ i. not (m i) || Listed n i) done i (rng i t)) (due i .1 t)
 
     -- a ring: not all are listed
     pub ring-stuck : Ring B → complete n b m ≡ true → ⊥
@@ -267,12 +267,12 @@ module _ (n : ℕ) (b : ℕ → ℕ → Bool) (m : ℕ → Bool) where
     back i w =
         let v = and-iff (m i) _ .0 w in
         let r : all n (λ j. not (b j i) || Listed n j) ≡ false =
-        ⊎-elim (λ q. not-both (and-iff (m i) _ .1 (v .0, and-iff (not (Listed n i)) _ .1 (v .1, q))) (over .1 i (rng i (touch i .0 (v .0))))) (λ q. q)
+        ⊎-elim (λ q. not-both (and-iff (m i) _ .1 (v .0, and-iff (not (Listed n i)) _ .1 (v .1, q))) (over .1 i (rng i (due i .0 (v .0))))) (λ q. q)
         (which (all n (λ j. not (b j i) || Listed n j))) in
         let f = all-fails n (λ j. not (b j i) || Listed n j) r in
         let p = imp-fails (b (f .0) i) _ (f .2) in
         let y = before (f .0) i .0 (p .0) in
-        (f .0, y, and-iff (m (f .0)) _ .1 (touch (f .0) .1 (src (f .0) i y), ap not (p .1)))
+        (f .0, y, and-iff (m (f .0)) _ .1 (due (f .0) .1 (src (f .0) i y), ap not (p .1)))
 
     -- not all are listed: a ring
     pub stuck-ring : complete n b m ≡ false → Ring B
@@ -280,7 +280,7 @@ module _ (n : ℕ) (b : ℕ → ℕ → Bool) (m : ℕ → Bool) where
     stuck-ring h =
         let f = all-fails n (λ i. not (m i) || Listed n i) h in
         let p = imp-fails (m (f .0)) _ (f .2) in
-        go (those n Waiting) (λ x k. those-have n Waiting x k) (λ x w. those-all n Waiting x (rng x (touch x .0 (and-iff (m x) _ .0 w .0))) w)
+        go (those n Waiting) (λ x k. those-have n Waiting x k) (λ x w. those-all n Waiting x (rng x (due x .0 (and-iff (m x) _ .0 w .0))) w)
         (f .0) (and-iff (m (f .0)) _ .1 (p .0, ap not (p .1)))
       where
         go : (l : List ℕ) → ((x : ℕ) → List·Memᴰ x l → Waiting x ≡ true) → ((x : ℕ) → Waiting x ≡ true → List·Memᴰ x l) → (x : ℕ) → Waiting x ≡ true → Ring B
@@ -291,7 +291,7 @@ module _ (n : ℕ) (b : ℕ → ℕ → Bool) (m : ℕ → Bool) where
     module _ (done : complete n b m ≡ true) where
       listed-m : (i : ℕ) → In n i → Listed n i ≡ m i
       unfolding Fills
-      listed-m i k = same-test (Listed n i) (m i) to (λ e. listed-all done i (touch i .0 e))
+      listed-m i k = same-test (Listed n i) (m i) to (λ e. listed-all done i (due i .0 e))
         where
           to : Listed n i ≡ true → m i ≡ true
           to h =
@@ -334,7 +334,7 @@ module _ (n : ℕ) (b : ℕ → ℕ → Bool) (m : ℕ → Bool) where
       ready-may p i l h =
           let r = parts (Listed p) i h in
           record {
-            listed = touch i .0 (r .listed);
+            listed = due i .0 (r .listed);
             new = λ s. not-both (stands p i l .1 s) (r .new);
             befores = λ j y. stands p j l .0 (r .befores j (rng j (src j i y)) (before j i .1 y));
           }
@@ -343,7 +343,7 @@ module _ (n : ℕ) (b : ℕ → ℕ → Bool) (m : ℕ → Bool) where
       unfolding ready
       may-ready p i l w =
           and-iff (m i) _ .1 (
-            touch i .1 (w .listed),
+            due i .1 (w .listed),
             and-iff (not (Listed p i)) _ .1 (
               not-iff (Listed p i) .1 (λ e. w .new (stands p i l .0 e)),
               all-from n (λ j. not (b j i) || Listed p j) (λ j k. imp-iff (b j i) (Listed p j) .1 (λ y. stands p j l .1 (w .befores j (before j i .0 y)))),

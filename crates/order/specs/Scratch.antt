@@ -1,4 +1,4 @@
--- The scratch rows of the order call, and what they say of the touches so far. A row has a bit for each ticket: bit i - 1 is ticket i's.
+-- The scratch rows of the order call, and what they say of the accesses so far. A row has a bit for each ticket: bit i - 1 is ticket i's.
 use mathlib.Core.Path.{_≡_}
 use mathlib.Core.Bool.{Bool, _&&_}
 use mathlib.Core.List.{List}
@@ -10,58 +10,58 @@ use Rattle.trace.specs.Limits.{records}
 use Rattle.order.specs.Limits.{tickets, tableWords}
 use Rattle.order.specs.Counting.{In, lowest}
 use Rattle.order.specs.Listing.{ready, places, elem}
-use Rattle.order.specs.Befores.{Touch, touched, someTouch, before}
+use Rattle.order.specs.Befores.{Access, accessed, someAccess, before}
 
 -- how many words hold a row for each record
-abbrev pub touchersLong : ℕ
-touchersLong = 8 * records
+abbrev pub accessorsLong : ℕ
+accessorsLong = 8 * records
 
 -- ticket i is in a row
 abbrev pub hasTicket : List ℕ → ℕ → Bool
 hasTicket row i = bit row (i - 1)
 
--- ticket i is in row r of the touchers: it touched record r
-abbrev pub hasToucher : List ℕ → ℕ → ℕ → Bool
-hasToucher touchers i r = bit touchers (tickets * r + (i - 1))
+-- ticket i is in row r of the accessors: it accessed record r
+abbrev pub hasAccessor : List ℕ → ℕ → ℕ → Bool
+hasAccessor accessors i r = bit accessors (tickets * r + (i - 1))
 
 -- ticket i is in row j of the befores: it comes before ticket j
 abbrev pub hasBefore : List ℕ → ℕ → ℕ → Bool
 hasBefore befores i j = bit befores (tickets * (j - 1) + (i - 1))
 
--- the rows say what the touches ts say
-pub record Rows (ts : List Touch) (touchers befores touching : List ℕ) : Type 0 where
-  pub touchers-long : length touchers ≡ touchersLong
+-- the rows say what the accesses ts say
+pub record Rows (ts : List Access) (accessors befores due : List ℕ) : Type 0 where
+  pub accessors-long : length accessors ≡ accessorsLong
   pub befores-long : length befores ≡ tableWords
-  pub touching-long : length touching ≡ 8
-  pub touchers-say : (i r : ℕ) → In tickets i → r < records → hasToucher touchers i r ≡ touched ts i r
+  pub due-long : length due ≡ 8
+  pub accessors-say : (i r : ℕ) → In tickets i → r < records → hasAccessor accessors i r ≡ accessed ts i r
   pub befores-say : (i j : ℕ) → In tickets i → In tickets j → hasBefore befores i j ≡ before ts i j
-  pub touching-say : (i : ℕ) → In tickets i → hasTicket touching i ≡ someTouch ts i
+  pub due-say : (i : ℕ) → In tickets i → hasTicket due i ≡ someAccess ts i
 
--- rows that say what some touches say become rows that say what those and an event's say
-abbrev pub Takes : (List Touch → List Touch) → List ℕ → List ℕ → List ℕ → List ℕ → List ℕ → List ℕ → Type 0
-Takes more touchers befores touching touchers′ befores′ touching′ =
-    (ts : List Touch) → Rows ts touchers befores touching → Rows (more ts) touchers′ befores′ touching′
+-- rows that say what some accesses say become rows that say what those and an event's say
+abbrev pub Takes : (List Access → List Access) → List ℕ → List ℕ → List ℕ → List ℕ → List ℕ → List ℕ → Type 0
+Takes more accessors befores due accessors′ befores′ due′ =
+    (ts : List Access) → Rows ts accessors befores due → Rows (more ts) accessors′ befores′ due′
 
 -- ---- the list
 
--- ticket i may be listed next, by the rows of befores, of tickets with a touch and of listed tickets
+-- ticket i may be listed next, by the rows of befores, of tickets with an access and of listed tickets
 unfoldable pub readyIn : List ℕ → List ℕ → List ℕ → ℕ → Bool
-readyIn befores touching listed = ready tickets (hasBefore befores) (hasTicket touching) (hasTicket listed)
+readyIn befores due listed = ready tickets (hasBefore befores) (hasTicket due) (hasTicket listed)
 
 -- the ticket to list next by these rows, or 0
 unfoldable pub nextIn : List ℕ → List ℕ → List ℕ → ℕ
-nextIn befores touching listed = lowest tickets (readyIn befores touching listed)
+nextIn befores due listed = lowest tickets (readyIn befores due listed)
 
 -- the first p places, as the rows have them
 abbrev pub placesIn : List ℕ → List ℕ → ℕ → List ℕ
-placesIn befores touching p = places tickets (hasBefore befores) (hasTicket touching) p
+placesIn befores due p = places tickets (hasBefore befores) (hasTicket due) p
 
 -- the first p places are in the list, with zeros after them, and their tickets are in the row of listed tickets
-pub record Filled (befores touching listed list : List ℕ) (p : ℕ) : Type 0 where
+pub record Filled (befores due listed list : List ℕ) (p : ℕ) : Type 0 where
   pub list-long : length list ≡ tickets
   pub listed-long : length listed ≡ 8
-  pub list-says : (q : ℕ) → getD list q 0 ≡ getD (placesIn befores touching p) q 0
-  pub listed-says : (i : ℕ) → In tickets i → hasTicket listed i ≡ elem i (placesIn befores touching p)
+  pub list-says : (q : ℕ) → getD list q 0 ≡ getD (placesIn befores due p) q 0
+  pub listed-says : (i : ℕ) → In tickets i → hasTicket listed i ≡ elem i (placesIn befores due p)
 
 -- ---- the table
 

@@ -14,15 +14,15 @@ use Rattle.trace.specs.Limits.{records}
 use Rattle.trace.specs.Causes.{ticketOf, recordOf}
 use Rattle.trace.specs.CauseLaws.{read-refused}
 use Rattle.trace.specs.Traces.{spellAll}
-use Rattle.trace.specs.History.{History, Touches, Before}
+use Rattle.trace.specs.History.{History, Accesses, Before}
 use Rattle.trace.specs.declared.Event.{Event}
 use Rattle.order.specs.Limits.{tickets, longest}
 use Rattle.order.specs.Answers.{ordered, refused, Call}
 use Rattle.order.specs.Counting.{In, count}
 use Rattle.order.specs.CountingLaws.{count-ext, count-le}
 use Rattle.order.specs.ListingLaws.{once, forward, list-no-ring, one-list}
-use Rattle.order.specs.Befores.{HasTouch, touches, someTouch, before}
-use Rattle.order.specs.BeforeLaws.{before-iff, some-touch-iff, before-src}
+use Rattle.order.specs.Befores.{HasAccess, accesses, someAccess, before}
+use Rattle.order.specs.BeforeLaws.{before-iff, some-access-iff, before-src}
 use Rattle.order.specs.Walk.{Walked, whole, walkFrom, walk}
 use Rattle.order.specs.WalkLaws.{Ends, done, far, Walks, walks, walk-over, walk-whole, near-each, near-onto}
 use Rattle.order.specs.Order.{OrderList, allListed, countOf, listOf, orderOf}
@@ -62,15 +62,15 @@ walk-ranges trace by e = near-each (walk-near trace by e)
 -- word 8(i-1) + (j-1)/32, whole part, bit (j-1) mod 32, of the table is set exactly if i comes before j,
 -- where the call is accepted, as it is where it orders (`listed`) or refuses with 28 (`ring-exactly`)
 pub table-pairs : {trace table list : List ℕ} {h : History} → Accepted trace table list h → (i j : ℕ) → In tickets i → In tickets j
-    → (has (getD (orderOf trace table list .table) (8 * (i - 1) + (j - 1) / 32) 0) ((j - 1) % 32) ≡ true) ↔ Before Touches h i j
+    → (has (getD (orderOf trace table list .table) (8 * (i - 1) + (j - 1) / 32) 0) ((j - 1) % 32) ≡ true) ↔ Before Accesses h i j
 table-pairs {h = h} a i j hi hj =
-    rw (order-settles a, settled-table (before (touches h)) (someTouch (touches h)), table-bit (before (touches h)) i j hi hj) (before-iff h i j)
+    rw (order-settles a, settled-table (before (accesses h)) (someAccess (accesses h)), table-bit (before (accesses h)) i j hi hj) (before-iff h i j)
 
 -- ---- the list
 
 module _ (trace table list : List ℕ) (by : Bytes trace) where
   -- what 28 says
-  at-28 : {c : Call} → Went trace table list c → c .says ≡ refused 28 0 → (h : History) × Accepted trace table list h × Ring (Before Touches h) × (c .list ≡ replicate tickets 0)
+  at-28 : {c : Call} → Went trace table list c → c .says ≡ refused 28 0 → (h : History) × Accepted trace table list h × Ring (Before Accesses h) × (c .list ≡ replicate tickets 0)
   at-28 (wrong n) e = let q : _≡_ {A = ℕ} 25 28 = cc in absurd (omega arith)
   at-28 (long f l) e = let q : _≡_ {A = ℕ} 26 28 = cc in absurd (omega arith)
   at-28 (stopped {k = k} f l w) e = let q : k ≡ 28 = cc in absurd (omega (arith, walk-cause table list by f l w .1))
@@ -78,12 +78,12 @@ module _ (trace table list : List ℕ) (by : Bytes trace) where
   at-28 (in-order a c) e = absurd (clash (cc))
 
   -- 28 is given exactly if the call is accepted and the befores close a ring
-  pub ring-exactly : (orderOf trace table list .says ≡ refused 28 0) ↔ ((h : History) × Accepted trace table list h × Ring (Before Touches h))
+  pub ring-exactly : (orderOf trace table list .says ≡ refused 28 0) ↔ ((h : History) × Accepted trace table list h × Ring (Before Accesses h))
   ring-exactly = (λ e. let x = at-28 (went trace table list) e in (x .0, x .1, x .2), back)
     where
-      back : (h : History) × Accepted trace table list h × Ring (Before Touches h) → orderOf trace table list .says ≡ refused 28 0
+      back : (h : History) × Accepted trace table list h × Ring (Before Accesses h) → orderOf trace table list .says ≡ refused 28 0
       back (h, a, r) =
-          ⊎-elim (λ c. absurd (no-ring (walk-near trace by (a .walked)) c r)) (λ c. rw (order-settles a, settled-ring (before (touches h)) (someTouch (touches h)) c))
+          ⊎-elim (λ c. absurd (no-ring (walk-near trace by (a .walked)) c r)) (λ c. rw (order-settles a, settled-ring (before (accesses h)) (someAccess (accesses h)) c))
           (which (allListed h))
 
   -- and then the list is all zeros
@@ -102,13 +102,13 @@ module _ (trace table list : List ℕ) (by : Bytes trace) where
       go (in-order a c) e z = absurd (clash (cc))
 
   -- where the call is accepted and there is no ring, it gives that order
-  pub orders : {h : History} → Accepted trace table list h → ¬ Ring (Before Touches h)
+  pub orders : {h : History} → Accepted trace table list h → ¬ Ring (Before Accesses h)
       → (K : ℕ) × (orderOf trace table list .says ≡ ordered K) × OrderList h K (orderOf trace table list .list)
   orders {h} a r =
       let n = walk-near trace by (a .walked) in
       ⊎-elim
       (λ c.
-      let e = order-settles a ∙ settled-all (before (touches h)) (someTouch (touches h)) c in
+      let e = order-settles a ∙ settled-all (before (accesses h)) (someAccess (accesses h)) c in
       (countOf h, ap (λ (c : Call). c .says) e, rw e (the-list n c)))
       (λ c. absurd (r (a-ring n c))) (which (allListed h))
 
@@ -157,7 +157,7 @@ ordered-few trace table list {k} = go (went trace table list)
     go (long f l) e = absurd (clash (cc))
     go (stopped f l w) e = absurd (clash (cc))
     go (ringed a c) e = absurd (clash (cc))
-    go (in-order {h} a c) e = let k-is : countOf h ≡ k = cc in omega (arith, count-le tickets (someTouch (touches h)))
+    go (in-order {h} a c) e = let k-is : countOf h ≡ k = cc in omega (arith, count-le tickets (someAccess (accesses h)))
 
 -- so the order that it says lies within its list
 -- ---- the order list
@@ -167,7 +167,7 @@ pub one-order-list : {h : History} {K K′ : ℕ} {xs ys : List ℕ} → OrderLi
 one-order-list = one-list
 
 -- where there is one the befores close no ring
-pub order-no-ring : {h : History} {K : ℕ} {xs : List ℕ} → OrderList h K xs → ¬ Ring (Before Touches h)
+pub order-no-ring : {h : History} {K : ℕ} {xs : List ℕ} → OrderList h K xs → ¬ Ring (Before Accesses h)
 order-no-ring l = list-no-ring l before-src
 
 -- no ticket stands twice among its K places
@@ -175,21 +175,21 @@ pub each-once : {h : History} {K : ℕ} {xs : List ℕ} → OrderList h K xs →
 each-once = once
 
 -- nothing stands later than a ticket it comes before
-pub befores-first : {h : History} {K : ℕ} {xs : List ℕ} → OrderList h K xs → (p q : ℕ) → p < K → q < K → Before Touches h (getD xs p 0) (getD xs q 0) → p < q
+pub befores-first : {h : History} {K : ℕ} {xs : List ℕ} → OrderList h K xs → (p q : ℕ) → p < K → q < K → Before Accesses h (getD xs p 0) (getD xs q 0) → p < q
 befores-first = forward
 
--- K is the number of different tickets with a touch: how many of 1 to 256 pass any test that says which have one
-pub K-counts : {h : History} {K : ℕ} {xs : List ℕ} → Near h → OrderList h K xs → (b : ℕ → Bool) → ((i : ℕ) → (b i ≡ true) ↔ HasTouch h i) → K ≡ count tickets b
+-- K is the number of different tickets with an access: how many of 1 to 256 pass any test that says which have one
+pub K-counts : {h : History} {K : ℕ} {xs : List ℕ} → Near h → OrderList h K xs → (b : ℕ → Bool) → ((i : ℕ) → (b i ≡ true) ↔ HasAccess h i) → K ≡ count tickets b
 K-counts {h} n l b t =
     ⊎-elim
     (λ c.
     one-list l (the-list n c) .0
-    ∙ count-ext tickets (someTouch (touches h)) b (λ i k. same-test (someTouch (touches h) i) (b i) (λ e. t i .1 (some-touch-iff h i .0 e)) (λ e. some-touch-iff h i .1 (t i .0 e))))
+    ∙ count-ext tickets (someAccess (accesses h)) b (λ i k. same-test (someAccess (accesses h) i) (b i) (λ e. t i .1 (some-access-iff h i .0 e)) (λ e. some-access-iff h i .1 (t i .0 e))))
     (λ c. absurd (list-no-ring l before-src (a-ring n c))) (which (allListed h))
 
 -- ---- spelled events
 
 -- near events, spelled in at most 65,536 bytes, whose befores close no ring, are ordered: no refusal is given
-pub spelled-order : {es : List Event} {table list : List ℕ} → Near es → Fit table list → length (spellAll es) ≤ longest → ¬ Ring (Before Touches (reverse es))
+pub spelled-order : {es : List Event} {table list : List ℕ} → Near es → Fit table list → length (spellAll es) ≤ longest → ¬ Ring (Before Accesses (reverse es))
     → (K : ℕ) × (orderOf (spellAll es) table list .says ≡ ordered K) × OrderList (reverse es) K (orderOf (spellAll es) table list .list)
 spelled-order {es} {table} {list} n f l r = orders (spellAll es) table list (spelled-bytes n) (record { fit = f; short = l; walked = walk-spelled n }) r

@@ -2,6 +2,7 @@
 use Prim.Native.Nat.{ℕ, zero, suc, _+_, _<_, _≤_}
 use mathlib.Core.Path.{_≡_, refl, sym, ap, subst, _∙_}
 use mathlib.Core.Bool.{true}
+use mathlib.Core.Logic.{⊎-elim}
 use mathlib.Core.List.{List, [], _∷_, _++_, append-assoc, reverse, reverseAux, List·Memᴰ, List·Memᴰ·head, List·Memᴰ·tail}
 use native.Mathlib.Omega.{arith}
 use borrow.Author.Tests.{ltb-true, ltb-false, lt-ltb, le-ltb}
@@ -17,11 +18,11 @@ use Rattle.trace.specs.EventLaws.{Whole, event-only, event-back, read-end}
 use Rattle.trace.specs.Causes.{ticketOf, recordOf}
 use Rattle.trace.specs.CauseLaws.{read-ended, fair-ranged}
 use Rattle.trace.specs.Traces.{spellAll, AllFair, spelled-some}
-use Rattle.trace.specs.History.{History, Touches, Some, now, ago}
+use Rattle.trace.specs.History.{History, Accesses, Some, now, ago}
 use Rattle.trace.specs.declared.Event.{Event}
 use Rattle.order.specs.Limits.{tickets}
 use Rattle.order.specs.Counting.{In}
-use Rattle.order.specs.Befores.{HasTouch}
+use Rattle.order.specs.Befores.{HasAccess}
 use Rattle.order.specs.Causes.{Near, none, more, Begins}
 use Rattle.order.specs.Walk.{Walked, faulty, walkBy, walkFrom, walk}
 
@@ -140,10 +141,10 @@ pub near-onto : {es : List Event} {h : History} → Near es → Near h → Near 
 near-onto none m = m
 near-onto (more f t n) m = near-onto n (more f t m)
 
--- so a ticket with a touch is one of 1 to 256
-pub near-touch : {h : History} → Near h → (i : ℕ) → HasTouch h i → In tickets i
-near-touch n i s = go n (s .some)
+-- so a ticket with an access is one of 1 to 256
+pub near-access : {h : History} → Near h → (i : ℕ) → HasAccess h i → In tickets i
+near-access n i s = go n (s .some)
   where
-    go : {h : History} {i r : ℕ} → Near h → Some (Touches i r) h → In tickets i
-    go (more {e = e} f t n) (now p) = subst (In tickets) (ap ticketOf p) (near-event e f t .0)
+    go : {h : History} {i r : ℕ} → Near h → Some (Accesses i r) h → In tickets i
+    go (more {e = e} f t n) (now p) = subst (In tickets) (⊎-elim (ap ticketOf) (ap ticketOf) p) (near-event e f t .0)
     go (more f t n) (ago s) = go n s

@@ -11,11 +11,11 @@ ghost use Rattle.trace.specs.Limits.{records};
 ghost use Rattle.trace.specs.Causes.{ticketOf, recordOf};
 ghost use Rattle.order.specs.Limits.{tickets, tableWords};
 ghost use Rattle.order.specs.Counting.{In, count};
-ghost use Rattle.order.specs.Befores.{touch, counted};
+ghost use Rattle.order.specs.Befores.{access, counts, counted};
 ghost use Rattle.order.specs.Answers.{called};
 ghost use Rattle.order.specs.Walk.{walk};
 ghost use Rattle.order.specs.Order.{tableBy, settled, orderBy, orderOf};
-ghost use Rattle.order.specs.Scratch.{hasTicket, hasBefore, touchersLong, Rows, Takes, readyIn, nextIn, Filled, Turns};
+ghost use Rattle.order.specs.Scratch.{hasTicket, hasBefore, accessorsLong, Rows, Takes, readyIn, nextIn, Filled, Turns};
 
 // How many tickets the order takes, and places the list has. It stands once more, in specs/Limits.antt, as do the next two.
 pub const TICKETS: usize = 256;
@@ -30,7 +30,7 @@ pub const LONGEST: usize = 65536;
 const ROW: usize = 8;
 
 // How many words hold a row for each record.
-const TOUCHERS: usize = ROW * (trace::RECORDS as usize);
+const ACCESSORS: usize = ROW * (trace::RECORDS as usize);
 
 // How many tickets are ordered, or why none are.
 pub enum Answer {
@@ -55,29 +55,22 @@ pub fn order_of(trace: &[u8], table: &mut [u32], list: &mut [u16]) -> Answer
     if LONGEST < trace.len() {
         return Answer::TooLong;
     }
-    let mut touchers = [0u32; TOUCHERS];
+    let mut accessors = [0u32; ACCESSORS];
     let mut befores = [0u32; TABLE];
-    let mut touching = [0u32; ROW];
-    walk_trace(
-        trace,
-        &mut touchers,
-        &mut befores,
-        &mut touching,
-        table,
-        list,
-    )
+    let mut due = [0u32; ROW];
+    walk_trace(trace, &mut accessors, &mut befores, &mut due, table, list)
 }
 
 // The trace is walked event by event; at its end the order is settled.
 fn walk_trace(
     trace: &[u8],
-    touchers: &mut [u32],
+    accessors: &mut [u32],
     befores: &mut [u32],
-    touching: &mut [u32],
+    due: &mut [u32],
     table: &mut [u32],
     list: &mut [u16],
 ) -> Answer
-    requires { ⌜ Rows [] (now touchers) (now befores) (now touching) ⌝ }
+    requires { ⌜ Rows [] (now accessors) (now befores) (now due) ⌝ }
     requires { ⌜ length (now table) ≡ tableWords ⌝ }
     requires { ⌜ length (now list) ≡ tickets ⌝ }
     ensures { λ r. ⌜ called r (now (table .exit)) (now (list .exit)) ≡ orderBy (walk (now (trace .entry))) (now (table .entry)) (now (list .entry)) ⌝ }
@@ -89,77 +82,86 @@ fn walk_trace(
             if let Reading::Unread(fault) = got {
                 return Answer::Unread { fault, at };
             }
-            return settle(befores, touching, table, list);
+            return settle(befores, due, table, list);
         };
         if TICKETS < trace::ticket_of(event) as usize {
             return Answer::FarTicket { at };
         }
-        note_event(touchers, befores, touching, event);
+        note_event(accessors, befores, due, event);
         at += length;
     }
 }
 
-// An event is taken in: only a touch counts.
-fn note_event(touchers: &mut [u32], befores: &mut [u32], touching: &mut [u32], event: Event)
-    requires { ⌜ length (now touchers) ≡ touchersLong ⌝ }
+// An event is taken in, where it counts.
+fn note_event(accessors: &mut [u32], befores: &mut [u32], due: &mut [u32], event: Event)
+    requires { ⌜ length (now accessors) ≡ accessorsLong ⌝ }
     requires { ⌜ length (now befores) ≡ tableWords ⌝ }
-    requires { ⌜ length (now touching) ≡ 8 ⌝ }
+    requires { ⌜ length (now due) ≡ 8 ⌝ }
     requires { ⌜ In tickets (ticketOf event) ⌝ }
     requires { ⌜ recordOf event < records ⌝ }
-    ensures { λ _. ⌜ Takes (counted event) (now (touchers .entry)) (now (befores .entry)) (now (touching .entry)) (now (touchers .exit)) (now (befores .exit)) (now (touching .exit)) ⌝ }
+    ensures { λ _. ⌜ Takes (counted event) (now (accessors .entry)) (now (befores .entry)) (now (due .entry)) (now (accessors .exit)) (now (befores .exit)) (now (due .exit)) ⌝ }
 {
-    match event {
-        Event::Started { .. } => {}
-        Event::Granted { .. } => {}
-        Event::Touched { ticket, record } => note_touch(
-            touchers,
+    if counts(event) {
+        note_access(
+            accessors,
             befores,
-            touching,
-            ticket,
-            record,
-        ),
-        Event::Released { .. } => {}
-        Event::Finished { .. } => {}
+            due,
+            trace::ticket_of(event),
+            trace::record_of(event),
+        );
     }
 }
 
-// A ticket touches a record: its touchers come before the ticket, and the ticket is one of them.
-fn note_touch(
-    touchers: &mut [u32],
+// Which events count: a grant does as well as a touch.
+fn counts(event: Event) -> bool
+    ensures { λ r. ⌜ r ≡ counts event ⌝ }
+{
+    match event {
+        Event::Started { .. } => false,
+        Event::Granted { .. } => true,
+        Event::Touched { .. } => true,
+        Event::Released { .. } => false,
+        Event::Finished { .. } => false,
+    }
+}
+
+// A ticket was granted a record or touched it: the record's accessors come before the ticket, and the ticket is one of them.
+fn note_access(
+    accessors: &mut [u32],
     befores: &mut [u32],
-    touching: &mut [u32],
+    due: &mut [u32],
     ticket: u32,
     record: u32,
 )
-    requires { ⌜ length (now touchers) ≡ touchersLong ⌝ }
+    requires { ⌜ length (now accessors) ≡ accessorsLong ⌝ }
     requires { ⌜ length (now befores) ≡ tableWords ⌝ }
-    requires { ⌜ length (now touching) ≡ 8 ⌝ }
+    requires { ⌜ length (now due) ≡ 8 ⌝ }
     requires { ⌜ In tickets ticket ⌝ }
     requires { ⌜ «record» < records ⌝ }
-    ensures { λ _. ⌜ Takes (λ ts. touch ticket «record» ∷ ts) (now (touchers .entry)) (now (befores .entry)) (now (touching .entry)) (now (touchers .exit)) (now (befores .exit)) (now (touching .exit)) ⌝ }
+    ensures { λ _. ⌜ Takes (λ ts. access ticket «record» ∷ ts) (now (accessors .entry)) (now (befores .entry)) (now (due .entry)) (now (accessors .exit)) (now (befores .exit)) (now (due .exit)) ⌝ }
 {
     let t = (ticket - 1) as usize;
     let r = record as usize;
-    or_row(befores, ROW * t, touchers, ROW * r);
+    or_row(befores, ROW * t, accessors, ROW * r);
     clear_bit(befores, TICKETS * t + t);
-    set_bit(touchers, TICKETS * r + t);
-    set_bit(touching, t);
+    set_bit(accessors, TICKETS * r + t);
+    set_bit(due, t);
 }
 
-// The table and the list, from the rows of befores and of tickets with a touch.
-fn settle(befores: &[u32], touching: &[u32], table: &mut [u32], list: &mut [u16]) -> Answer
+// The table and the list, from the rows of befores and of tickets with an access.
+fn settle(befores: &[u32], due: &[u32], table: &mut [u32], list: &mut [u16]) -> Answer
     requires { ⌜ length (now befores) ≡ tableWords ⌝ }
-    requires { ⌜ length (now touching) ≡ 8 ⌝ }
+    requires { ⌜ length (now due) ≡ 8 ⌝ }
     requires { ⌜ length (now table) ≡ tableWords ⌝ }
     requires { ⌜ length (now list) ≡ tickets ⌝ }
-    ensures { λ r. ⌜ called r (now (table .exit)) (now (list .exit)) ≡ settled (hasBefore (now (befores .entry))) (hasTicket (now (touching .entry))) ⌝ }
+    ensures { λ r. ⌜ called r (now (table .exit)) (now (list .exit)) ≡ settled (hasBefore (now (befores .entry))) (hasTicket (now (due .entry))) ⌝ }
 {
     fill_table(befores, table);
     let mut listed = [0u32; ROW];
-    fill_places(befores, touching, &mut listed, list);
-    if row_within(touching, 0, &listed) {
+    fill_places(befores, due, &mut listed, list);
+    if row_within(due, 0, &listed) {
         return Answer::Ordered {
-            count: count_tickets(touching),
+            count: count_tickets(due),
         };
     }
     clear_list(list);
@@ -209,17 +211,17 @@ fn turn_bit(befores: &[u32], table: &mut [u32], k: usize)
 }
 
 // The places are filled one by one, as long as a ticket may be listed.
-fn fill_places(befores: &[u32], touching: &[u32], listed: &mut [u32], list: &mut [u16])
+fn fill_places(befores: &[u32], due: &[u32], listed: &mut [u32], list: &mut [u16])
     requires { ⌜ length (now befores) ≡ tableWords ⌝ }
-    requires { ⌜ length (now touching) ≡ 8 ⌝ }
+    requires { ⌜ length (now due) ≡ 8 ⌝ }
     requires { ⌜ now listed ≡ replicate 8 0 ⌝ }
     requires { ⌜ length (now list) ≡ tickets ⌝ }
-    ensures { λ _. ⌜ Filled (now (befores .entry)) (now (touching .entry)) (now (listed .exit)) (now (list .exit)) tickets ⌝ }
+    ensures { λ _. ⌜ Filled (now (befores .entry)) (now (due .entry)) (now (listed .exit)) (now (list .exit)) tickets ⌝ }
 {
     clear_list(list);
     let mut p = 0;
     while p < TICKETS {
-        let ticket = next_ticket(befores, touching, listed);
+        let ticket = next_ticket(befores, due, listed);
         if ticket == 0 {
             return;
         }
@@ -230,16 +232,16 @@ fn fill_places(befores: &[u32], touching: &[u32], listed: &mut [u32], list: &mut
 }
 
 // The ticket to be listed next, or 0.
-fn next_ticket(befores: &[u32], touching: &[u32], listed: &[u32]) -> u32
+fn next_ticket(befores: &[u32], due: &[u32], listed: &[u32]) -> u32
     requires { ⌜ length (now befores) ≡ tableWords ⌝ }
-    requires { ⌜ length (now touching) ≡ 8 ⌝ }
+    requires { ⌜ length (now due) ≡ 8 ⌝ }
     requires { ⌜ length (now listed) ≡ 8 ⌝ }
-    ensures { λ r. ⌜ r ≡ nextIn (now (befores .entry)) (now (touching .entry)) (now (listed .entry)) ⌝ }
+    ensures { λ r. ⌜ r ≡ nextIn (now (befores .entry)) (now (due .entry)) (now (listed .entry)) ⌝ }
     ensures bounded { λ r. ⌜ r ≤ tickets ⌝ }
 {
     let mut t = 0;
     while t < TICKETS {
-        if is_ready(befores, touching, listed, t) {
+        if is_ready(befores, due, listed, t) {
             return (t as u32) + 1;
         }
         t += 1;
@@ -248,14 +250,14 @@ fn next_ticket(befores: &[u32], touching: &[u32], listed: &[u32]) -> u32
 }
 
 // Ticket t + 1 may be listed next.
-fn is_ready(befores: &[u32], touching: &[u32], listed: &[u32], t: usize) -> bool
+fn is_ready(befores: &[u32], due: &[u32], listed: &[u32], t: usize) -> bool
     requires { ⌜ length (now befores) ≡ tableWords ⌝ }
-    requires { ⌜ length (now touching) ≡ 8 ⌝ }
+    requires { ⌜ length (now due) ≡ 8 ⌝ }
     requires { ⌜ length (now listed) ≡ 8 ⌝ }
     requires { ⌜ t < tickets ⌝ }
-    ensures { λ r. ⌜ r ≡ readyIn (now (befores .entry)) (now (touching .entry)) (now (listed .entry)) (t + 1) ⌝ }
+    ensures { λ r. ⌜ r ≡ readyIn (now (befores .entry)) (now (due .entry)) (now (listed .entry)) (t + 1) ⌝ }
 {
-    if !get_bit(touching, t) {
+    if !get_bit(due, t) {
         return false;
     }
     if get_bit(listed, t) {

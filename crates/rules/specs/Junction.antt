@@ -1,12 +1,13 @@
 -- The story of the viaduct: the sweep (1) gave the deck (5) up, an editor (2) took it, and then took the lower road (6) before the sweep.
 use mathlib.Core.Path.{refl}
+use mathlib.Core.Logic.{inr}
 use mathlib.Core.List.{[], _∷_}
 use native.Mathlib.Omega.{arith}
 use Rattle.trace.specs.declared.Event.the-variants.{Started, Granted, Touched, Released, Finished}
-use Rattle.trace.specs.History.{History, Touches, now, ago, closing, closed, Before}
+use Rattle.trace.specs.History.{History, Accesses, now, ago, closing, closed, Before}
 use Rattle.rules.specs.Rules.{Lawful}
 use Rattle.words.specs.Chains.{last, more, Ring}
-use Rattle.rules.specs.NoRing.{no-ring-of-touches}
+use Rattle.rules.specs.NoRing.{no-ring}
 
 -- what the old desk allowed, newest first
 abbrev pub junction : History
@@ -15,17 +16,17 @@ junction =
     ∷ Started 1 ∷ []
 
 -- the sweep comes before the editor, on the deck
-sweep-first : Before Touches junction 1 2
-sweep-first = record { apart = omega arith; on = 5; earlier = closed (closed (closed (closed (closed (closing (ago (ago (ago (now refl)))) refl))))) }
+sweep-first : Before Accesses junction 1 2
+sweep-first = record { apart = omega arith; on = 5; earlier = closed (closed (closed (closed (closed (closing (ago (ago (ago (now (inr refl))))) (inr refl)))))) }
 
 -- the editor comes before the sweep, on the lower road
-editor-first : Before Touches junction 2 1
-editor-first = record { apart = omega arith; on = 6; earlier = closing (ago (ago (now refl))) refl }
+editor-first : Before Accesses junction 2 1
+editor-first = record { apart = omega arith; on = 6; earlier = closing (ago (ago (now (inr refl)))) (inr refl) }
 
 -- the befores close a ring
-pub junction-ring : Ring (Before Touches junction)
+pub junction-ring : Ring (Before Accesses junction)
 junction-ring = (1, more sweep-first (last editor-first))
 
 -- so the old desk broke a rule
 pub junction-unlawful : ¬ Lawful junction
-junction-unlawful l = no-ring-of-touches l junction-ring
+junction-unlawful l = no-ring l junction-ring

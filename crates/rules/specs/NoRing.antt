@@ -4,12 +4,12 @@ use mathlib.Core.Path.{refl, subst}
 use mathlib.Core.Logic.{_≢_, _⊎_, inl, inr, ⊎-elim}
 use mathlib.Core.List.{_∷_}
 use Rattle.trace.specs.declared.Event.{Event}
-use Rattle.trace.specs.History.{History, Kind, Touches, Some, ago, Earlier, closing, closed, Accesses, Before}
+use Rattle.trace.specs.History.{History, Kind, Some, ago, Earlier, closing, closed, Accesses, Before}
 use Rattle.rules.specs.Changes.{Gave, Live, InWake}
 use Rattle.rules.specs.Rules.{Lawful, nothing, and, Step, Holds}
-use Rattle.words.specs.Chains.{Chain, last, more, Ring, join, chain-map, first-step}
+use Rattle.words.specs.Chains.{Chain, last, more, Ring, join, first-step}
 use Rattle.rules.specs.Moments.{_≼_, same, later, some-later, earlier-later}
-use Rattle.trace.specs.HistoryLaws.{earlier-map, no-pair, first-of}
+use Rattle.trace.specs.HistoryLaws.{no-pair, first-of}
 use Rattle.rules.specs.Facts.{access-holds, access-had, had-live, rule-one, rule-two, once, latest}
 
 -- a moment of h at which t has just accessed r, some time after an event of kind P
@@ -76,7 +76,3 @@ old l s (more y c) back =
 pub no-ring : {h : History} → Lawful h → ¬ Ring (Before Accesses h)
 no-ring nothing c = no-pair (first-step (c .1) .1 .earlier)
 no-ring (and l s) c = no-ring l (c .0, old l s (c .1) (c .1))
-
--- the same where touches alone count
-pub no-ring-of-touches : {h : History} → Lawful h → ¬ Ring (Before Touches h)
-no-ring-of-touches l c = no-ring l (c .0, chain-map (λ i j y. record { apart = y .apart; on = y .on; earlier = earlier-map (λ e. inr) (λ e. inr) (y .earlier) }) (c .1))

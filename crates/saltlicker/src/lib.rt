@@ -5,7 +5,6 @@ ghost use lib.ListN.{length, set};
 ghost use Rattle.words.specs.Tests.{pick};
 ghost use Rattle.words.specs.Word.{put};
 ghost use Rattle.trace.specs.Events.{writeAt};
-ghost use Rattle.trace.specs.Causes.{recordOf};
 ghost use Rattle.desk.specs.Answers.{said, clearSaid};
 ghost use Rattle.desk.specs.Limits.{seats};
 ghost use Rattle.desk.specs.Step.{state};
@@ -283,19 +282,6 @@ fn kind_of(event: Event) -> u32
     }
 }
 
-// The record of an event, or 0 where it has none.
-fn record_of(event: Event) -> u32
-    ensures { λ r. ⌜ r ≡ recordOf event ⌝ }
-{
-    match event {
-        Event::Started { ticket: _ } => 0,
-        Event::Granted { record, .. } => record,
-        Event::Touched { record, .. } => record,
-        Event::Released { record, .. } => record,
-        Event::Finished { ticket: _ } => 0,
-    }
-}
-
 // Puts kind, ticket and record of an event.
 fn put_event(event: &mut [u32], found: Event)
     requires { ⌜ length (now event) ≡ eventWords ⌝ }
@@ -303,7 +289,7 @@ fn put_event(event: &mut [u32], found: Event)
 {
     put_word(event, 0, kind_of(found));
     put_word(event, 1, trace::ticket_of(found));
-    put_word(event, 2, record_of(found));
+    put_word(event, 2, trace::record_of(found));
 }
 
 // Reads the event at the front of the rest of a trace.

@@ -44,6 +44,10 @@ pub earlier-map : {P Q P′ Q′ : Kind} {h : History} → ((e : Event) → P e 
 earlier-map f g (closing s q) = closing (some-map f s) (g _ q)
 earlier-map f g (closed y) = closed (earlier-map f g y)
 
+-- a before is one of any wider work
+pub before-map : {work wider : ℕ → ℕ → Kind} {h : History} {i j : ℕ} → ((t r : ℕ) (e : Event) → work t r e → wider t r e) → Before work h i j → Before wider h i j
+before-map f y = record { apart = y .apart; on = y .on; earlier = earlier-map (f _ _) (f _ _) (y .earlier) }
+
 -- the newest event makes a before of an older and its own work, or the before is an old one
 pub before-cons : {work : ℕ → ℕ → Kind} {e : Event} {h : History} {i j : ℕ} → Before work (e ∷ h) i j ↔ (Before work h i j ⊎ ((i ≢ j) × ((r : ℕ) × work j r e × Some (work i r) h)))
 before-cons {work} {e} {h} {i} {j} = (λ y. go y (y .earlier), ⊎-elim (λ y. record { apart = y .apart; on = y .on; earlier = closed (y .earlier) }) (λ x. record { apart = x .0; on = x .1 .0; earlier = closing (x .1 .2) (x .1 .1) }))

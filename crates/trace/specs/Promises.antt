@@ -7,7 +7,7 @@ use lib.Dec.{eqb}
 use Rattle.trace.specs.Answers.{number, NumberSaid, value, no-value, numberSaid, ReadingSaid, event, end, no-event, readingSaid, WritingSaid, written, unwritten, writingSaid}
 use Rattle.trace.specs.Numbers.{readNumber}
 use Rattle.trace.specs.Events.{readAt, Wrote, wrote, writeAt}
-use Rattle.trace.specs.Causes.{ticketOf}
+use Rattle.trace.specs.Causes.{ticketOf, recordOf}
 use Rattle.trace.specs.declared.Event.{Event}
 use Rattle.trace.specs.declared.Fault.{Fault}
 use Rattle.trace.specs.declared.Fault.the-variants.{Cut, Spelling, Kind, Range, Room}
@@ -85,6 +85,10 @@ one-refusal r r′ f p q = p ∙ sym q
 -- `ticket_of`: one ticket for an event
 pub one-ticket : (r r′ : ℕ) (e : Event) → r ≡ ticketOf e → r′ ≡ ticketOf e → r ≡ r′
 one-ticket r r′ e p q = p ∙ sym q
+
+-- `record_of`: one record for an event
+pub one-record : (r r′ : ℕ) (e : Event) → r ≡ recordOf e → r′ ≡ recordOf e → r ≡ r′
+one-record r r′ e p q = p ∙ sym q
 
 -- `number`: one answer for an input
 pub one-number : (r r′ : Numeral) (l : List ℕ) → numberSaid r ≡ readNumber l → numberSaid r′ ≡ readNumber l → r ≡ r′

@@ -7,7 +7,7 @@ ghost use Rattle.words.specs.Parts.{over, lay};
 ghost use Rattle.trace.specs.Limits.{limit};
 ghost use Rattle.trace.specs.Answers.{number, numberSaid, readingSaid};
 ghost use Rattle.trace.specs.Numbers.{readNumber, spellNumber, judge};
-ghost use Rattle.trace.specs.Causes.{ticketOf};
+ghost use Rattle.trace.specs.Causes.{ticketOf, recordOf};
 ghost use Rattle.trace.specs.Events.{fairTicket, fairPair, pairSaid, readAt, readTicket, asRecord, recorded, readNumbers, ofPair, put, wrote, writeAt};
 
 // The largest number, all that three groups hold, and so the largest ticket. It stands once more, in specs/Limits.antt.
@@ -86,6 +86,19 @@ pub fn ticket_of(event: Event) -> u32
         Event::Touched { ticket, .. } => ticket,
         Event::Released { ticket, .. } => ticket,
         Event::Finished { ticket } => ticket,
+    }
+}
+
+// The record of an event, or 0 where it has none.
+pub fn record_of(event: Event) -> u32
+    ensures { λ r. ⌜ r ≡ recordOf event ⌝ }
+{
+    match event {
+        Event::Started { .. } => 0,
+        Event::Granted { record, .. } => record,
+        Event::Touched { record, .. } => record,
+        Event::Released { record, .. } => record,
+        Event::Finished { .. } => 0,
     }
 }
 

@@ -11,10 +11,10 @@ use Rattle.order.proofs.fill_places.Statement.{statement}
 use Rattle.order.proofs.fill_places.Tie as tie
 
 abbrev Inv-loop : tie.InvT-loop
-Inv-loop befores touching listed₀ list₀ p₀ listed list p = (p ≤ tickets) × Filled befores touching listed list p
+Inv-loop befores due listed₀ list₀ p₀ listed list p = (p ≤ tickets) × Filled befores due listed list p
 
 abbrev μ-loop : tie.MeasureT-loop
-μ-loop befores touching listed₀ list₀ p₀ listed list p = tickets - p
+μ-loop befores due listed₀ list₀ p₀ listed list p = tickets - p
 
 clear-list-requires : tie.Need-clear-list-requires Inv-loop μ-loop
 clear-list-requires c κs = search needs

@@ -1,4 +1,4 @@
--- No touch, listed, or by the befores.
+-- No access, listed, or by the befores.
 use borrow.Author.Needs.{needs}
 use mathlib.Core.Path.{sym, _∙_}
 use borrow.Author.Tests.{not-true, not-false}

@@ -11,10 +11,10 @@ use Rattle.order.proofs.next_ticket.Statement.{statement}
 use Rattle.order.proofs.next_ticket.Tie as tie
 
 abbrev Inv-loop : tie.InvT-loop
-Inv-loop befores touching listed t₀ t = (t ≤ 256) × ((k : ℕ) → k < t → readyIn befores touching listed (k + 1) ≡ false)
+Inv-loop befores due listed t₀ t = (t ≤ 256) × ((k : ℕ) → k < t → readyIn befores due listed (k + 1) ≡ false)
 
 abbrev μ-loop : tie.MeasureT-loop
-μ-loop befores touching listed t₀ t = 256 - t
+μ-loop befores due listed t₀ t = 256 - t
 
 loop-holds : tie.Need-loop-holds Inv-loop μ-loop
 loop-holds c = (omega arith, below-none _)

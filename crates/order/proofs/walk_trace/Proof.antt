@@ -8,10 +8,10 @@ use Rattle.order.proofs.walk_trace.Statement.{statement}
 use Rattle.order.proofs.walk_trace.Tie as tie
 
 abbrev Inv-loop : tie.InvT-loop
-Inv-loop trace touchers₀ befores₀ touching₀ table₀ list₀ at₀ touchers befores touching table list at = Walking trace table₀ list₀ touchers befores touching table list at
+Inv-loop trace accessors₀ befores₀ due₀ table₀ list₀ at₀ accessors befores due table list at = Walking trace table₀ list₀ accessors befores due table list at
 
 abbrev μ-loop : tie.MeasureT-loop
-μ-loop trace touchers₀ befores₀ touching₀ table₀ list₀ at₀ touchers befores touching table list at = length trace - at
+μ-loop trace accessors₀ befores₀ due₀ table₀ list₀ at₀ accessors befores due table list at = length trace - at
 
 loop-holds : tie.Need-loop-holds Inv-loop μ-loop
 loop-holds c = walking-start (λ i. c .before .before .before .before .before .shared-slice-known .given i .fits) (c .before .before .before .before .before .before .pre .0) (record { table-long = c .before .before .before .before .before .before .pre .1 .0; list-long = c .before .before .before .before .before .before .pre .1 .1 })
@@ -101,7 +101,7 @@ note-event-requires : tie.Need-note-event-requires Inv-loop μ-loop
 note-event-requires c κs =
     let r = c .before .before .before .before .before .before .before .before .before .before .loop .inv .rows in
     let n = event-near (c .before .before .before .before .before .before .before .before .before .before .loop .inv) (c .before .before .before .before .before .before .before .before .read .result) (c .before .before .before .before .before .before .before .before .read .ensures) (c .before .before .before .before .before .before .got .given .1) (c .before .before .before .before .ticket-of .ensures) (c .before .before .before .if1 .left) in
-    (r .touchers-long, (r .befores-long, (r .touching-long, n)))
+    (r .accessors-long, (r .befores-long, (r .due-long, n)))
 
 add-at : tie.Need-add-at Inv-loop μ-loop
 add-at c = omega (arith, event-fits (c .before .before .before .before .before .before .before .before .before .before .before .before .before .before .before .before .before .loop .inv) (c .before .before .before .before .before .before .before .before .before .before .before .before .before .before .before .read .result) (c .before .before .before .before .before .before .before .before .before .before .before .before .before .before .before .read .ensures) (c .before .before .before .before .before .before .before .before .before .before .before .before .before .got .given .1))

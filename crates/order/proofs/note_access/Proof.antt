@@ -1,8 +1,8 @@
--- Each row changes as a touch changes it.
+-- Each row changes as an access changes it.
 use borrow.Author.Needs.{needs}
 use Rattle.order.proofs.Rows.{noted}
-use Rattle.order.proofs.note_touch.Statement.{statement}
-use Rattle.order.proofs.note_touch.Tie as tie
+use Rattle.order.proofs.note_access.Statement.{statement}
+use Rattle.order.proofs.note_access.Tie as tie
 
 sub-t : tie.Need-sub-t
 sub-t c = search needs
@@ -52,8 +52,8 @@ same-length-3 c = search needs
 returns : tie.Need-returns
 returns c = search (noted, needs)
 
-pub note-touch-spec : {M : Type 1} → statement M
-note-touch-spec =
+pub note-access-spec : {M : Type 1} → statement M
+note-access-spec =
     tie.close
     (tie.spec
     sub-t
