@@ -6,6 +6,7 @@ use compare::calls::model::SECOND;
 use compare::calls::{Calls, PLACE};
 use compare::run::{run, Difference, Proved};
 use compare::texts::{Program, AUDIT, DESK, ORDER};
+use second::gen::recast;
 use wrong::{found, put, smallest};
 
 /// The second program on both sides.
@@ -58,7 +59,38 @@ fn an_order_that_sees_no_ring() {
     let proved = |trace: &[u8], room: &mut [u8]| {
         put(second::order_text(trace), "refused 28 at 0", "order 0", room)
     };
-    assert_eq!(smallest(Program { proved, ..ORDER }), [3, 1, 0, 3, 2, 0, 3, 1, 0]);
+    assert_eq!(smallest(Program { proved, ..ORDER }), [2, 1, 0, 2, 2, 0, 2, 1, 0]);
+}
+
+#[test]
+fn an_order_that_counts_touches_only_or_grants_only() {
+    // What does not count is a release instead: offsets stay, and so do all other refusals.
+    let touches =
+        |trace: &[u8], room: &mut [u8]| put(second::order_text(&recast(trace, 2, 4)), "", "", room);
+    assert_eq!(smallest(Program { proved: touches, ..ORDER }), [2, 1, 0]);
+    let grants =
+        |trace: &[u8], room: &mut [u8]| put(second::order_text(&recast(trace, 3, 4)), "", "", room);
+    assert_eq!(smallest(Program { proved: grants, ..ORDER }), [3, 1, 0]);
+}
+
+#[test]
+fn an_order_that_counts_releases() {
+    let proved =
+        |trace: &[u8], room: &mut [u8]| put(second::order_text(&recast(trace, 4, 3)), "", "", room);
+    assert_eq!(smallest(Program { proved, ..ORDER }), [4, 1, 0]);
+}
+
+#[test]
+fn a_ring_that_needs_touches_on_each_side() {
+    let proved = |trace: &[u8], room: &mut [u8]| {
+        let text = second::order_text(trace);
+        // Whoever only locked is listed, but grants close no ring.
+        let ring = second::order_text(&recast(trace, 2, 4)).starts_with("refused 28");
+        let text = if ring { text } else { text.replace("refused 28 at 0", "order 0") };
+        put(text, "", "", room)
+    };
+    let trace = smallest(Program { proved, ..ORDER });
+    assert_eq!((trace.len(), second::order_text(&trace).as_str()), (9, "refused 28 at 0\n"));
 }
 
 #[test]
@@ -135,6 +167,20 @@ fn an_order_that_leaves_the_list_at_a_ring() {
         let answer = (SECOND.order)(trace, table, list);
         if answer >> 32 == 28 {
             list.copy_from_slice(&before);
+        }
+        answer
+    };
+    assert!(found(Calls { order, ..SECOND }));
+}
+
+#[test]
+fn a_table_of_befores_by_touches_only() {
+    let order = |trace: &[u8], table: &mut [u32], list: &mut [u16]| {
+        let answer = (SECOND.order)(trace, table, list);
+        if answer >> 32 == 208 {
+            // The list stays, so only the table tells.
+            let mut places = [0; 256];
+            (SECOND.order)(&recast(trace, 2, 4), table, &mut places);
         }
         answer
     };
