@@ -62,32 +62,28 @@ fn an_order_that_sees_no_ring() {
     assert_eq!(smallest(Program { proved, ..ORDER }), [2, 1, 0, 2, 2, 0, 2, 1, 0]);
 }
 
+/// Puts the order of a trace with events of one kind as of another; refusals 20 to 27 stay.
+fn put_recast(trace: &[u8], from: u8, to: u8, room: &mut [u8]) -> usize {
+    put(second::order_text(&recast(trace, from, to)), "", "", room)
+}
+
 #[test]
-fn an_order_that_counts_touches_only_or_grants_only() {
-    // What does not count is a release instead: offsets stay, and so do all other refusals.
-    let touches =
-        |trace: &[u8], room: &mut [u8]| put(second::order_text(&recast(trace, 2, 4)), "", "", room);
+fn an_order_that_counts_touches_only_or_grants_only_or_releases_too() {
+    // What is a release instead does not count, and what is a touch instead does.
+    let touches = |trace: &[u8], room: &mut [u8]| put_recast(trace, 2, 4, room);
     assert_eq!(smallest(Program { proved: touches, ..ORDER }), [2, 1, 0]);
-    let grants =
-        |trace: &[u8], room: &mut [u8]| put(second::order_text(&recast(trace, 3, 4)), "", "", room);
+    let grants = |trace: &[u8], room: &mut [u8]| put_recast(trace, 3, 4, room);
     assert_eq!(smallest(Program { proved: grants, ..ORDER }), [3, 1, 0]);
+    let releases = |trace: &[u8], room: &mut [u8]| put_recast(trace, 4, 3, room);
+    assert_eq!(smallest(Program { proved: releases, ..ORDER }), [4, 1, 0]);
 }
 
 #[test]
-fn an_order_that_counts_releases() {
-    let proved =
-        |trace: &[u8], room: &mut [u8]| put(second::order_text(&recast(trace, 4, 3)), "", "", room);
-    assert_eq!(smallest(Program { proved, ..ORDER }), [4, 1, 0]);
-}
-
-#[test]
-fn a_ring_that_needs_touches_on_each_side() {
+fn an_order_in_which_grants_close_no_ring() {
     let proved = |trace: &[u8], room: &mut [u8]| {
-        let text = second::order_text(trace);
-        // Whoever only locked is listed, but grants close no ring.
-        let ring = second::order_text(&recast(trace, 2, 4)).starts_with("refused 28");
-        let text = if ring { text } else { text.replace("refused 28 at 0", "order 0") };
-        put(text, "", "", room)
+        let of_touches = second::order_text(&recast(trace, 2, 4)).starts_with("refused 28");
+        let to = if of_touches { "refused 28 at 0" } else { "order 0" };
+        put(second::order_text(trace), "refused 28 at 0", to, room)
     };
     let trace = smallest(Program { proved, ..ORDER });
     assert_eq!((trace.len(), second::order_text(&trace).as_str()), (9, "refused 28 at 0\n"));
