@@ -120,8 +120,10 @@ saltlicker_answer saltlicker_read(const uint8_t *rest, size_t rest_bytes, uint32
    or refused 22 to 24. Kinds 1 and 5 do not look at the record. */
 saltlicker_answer saltlicker_write(uint8_t *room, size_t room_bytes, uint32_t kind, uint32_t ticket, uint32_t record);
 
-/* Works out the table of befores and the list of tickets: ORDERED, or refused, with the offset as the value: the first byte of
-   the faulty event, or 0 for 25, 26 and 28. Refused 28, the table holds the pairs and the list zeros. */
+/* Works out the table of befores and the list of the tickets that touched something or were granted something: ORDERED, or
+   refused, with the offset as the value: the first byte of the faulty event, or 0 for 25, 26 and 28. Refused 28, the table
+   holds the pairs and the list zeros. Ticket i comes before ticket j if i touched or was granted some record earlier than j
+   did. */
 saltlicker_answer saltlicker_order(const uint8_t *trace, size_t trace_bytes, uint32_t *table, size_t table_words,
                                    uint16_t *list, size_t list_places);
 

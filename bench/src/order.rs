@@ -13,9 +13,9 @@ pub const LONGEST: usize = 65_536;
 type Row = [u32; 8];
 
 struct Rows {
-    touchers: [Row; RECORDS as usize],
+    accessors: [Row; RECORDS as usize],
     befores: [Row; TICKETS],
-    touching: Row,
+    accessing: Row,
 }
 
 fn has(row: &Row, t: usize) -> bool {
@@ -54,8 +54,11 @@ pub fn order(trace: &[u8], table: &mut [u32], list: &mut [u16]) -> u64 {
 
 impl Rows {
     // A constant is zeroed where it stands; built on the spot, its rows are copied there once more.
-    const EMPTY: Rows =
-        Rows { touchers: [[0; 8]; RECORDS as usize], befores: [[0; 8]; TICKETS], touching: [0; 8] };
+    const EMPTY: Rows = Rows {
+        accessors: [[0; 8]; RECORDS as usize],
+        befores: [[0; 8]; TICKETS],
+        accessing: [0; 8],
+    };
 
     fn walk(&mut self, trace: &[u8]) -> Result<(), Refusal> {
         let mut at = 0;
@@ -67,29 +70,29 @@ impl Rows {
             if event.ticket() as usize > TICKETS {
                 return Err(Refusal::FarTicket(at));
             }
-            if let Event::Touched { ticket, record } = event {
-                self.touch((ticket - 1) as usize, record as usize);
+            if let Event::Granted { ticket, record } | Event::Touched { ticket, record } = event {
+                self.access((ticket - 1) as usize, record as usize);
             }
             at += length;
         }
     }
 
-    fn touch(&mut self, t: usize, record: usize) {
-        let touchers = &mut self.touchers[record];
+    fn access(&mut self, t: usize, record: usize) {
+        let accessors = &mut self.accessors[record];
         let befores = &mut self.befores[t];
-        for (word, earlier) in befores.iter_mut().zip(touchers.iter()) {
+        for (word, earlier) in befores.iter_mut().zip(accessors.iter()) {
             *word |= earlier;
         }
         befores[t / 32] &= !(1 << (t % 32));
-        set(touchers, t);
-        set(&mut self.touching, t);
+        set(accessors, t);
+        set(&mut self.accessing, t);
     }
 
     fn settle(&self, table: &mut [u32], list: &mut [u16]) -> u64 {
         self.fill_table(table);
         let listed = self.fill_places(list);
-        if within(&self.touching, &listed) {
-            let count = (0..TICKETS).filter(|&t| has(&self.touching, t)).count();
+        if within(&self.accessing, &listed) {
+            let count = (0..TICKETS).filter(|&t| has(&self.accessing, t)).count();
             return 208 << 32 | count as u64;
         }
         list.fill(0);
@@ -121,6 +124,6 @@ impl Rows {
     }
 
     fn is_ready(&self, listed: &Row, t: usize) -> bool {
-        has(&self.touching, t) && !has(listed, t) && within(&self.befores[t], listed)
+        has(&self.accessing, t) && !has(listed, t) && within(&self.befores[t], listed)
     }
 }

@@ -49,7 +49,7 @@ fn full(trace: Vec<u8>) -> Vec<u8> {
     pieces.concat()
 }
 
-/// Changes one after the other, each with all five kinds of event.
+/// Changes one after the other, with all five kinds of event, each record granted and touched.
 fn changes() -> Vec<u8> {
     let (mut trace, mut record) = (Vec::new(), 0);
     for ticket in 1..=256 {
@@ -63,7 +63,7 @@ fn changes() -> Vec<u8> {
     full(trace)
 }
 
-/// The first full trace of the generator that has an order and touches many records.
+/// The first full trace of the generator that has an order and is of many records.
 fn generated() -> Vec<u8> {
     let fits = |bytes: &Vec<u8>| bytes.len() == FULL && distinct_records(bytes) > 200;
     let ordered = |bytes: &Vec<u8>| second::order_text(bytes).starts_with("order");

@@ -79,6 +79,14 @@ pub fn events(trace: &[u8]) -> Pieces {
     pieces
 }
 
+/// A trace with every event of one kind spelled as one of another; both kinds must have a record.
+pub fn recast(trace: &[u8], from: u8, to: u8) -> Vec<u8> {
+    let mut recast = events(trace);
+    let read = length(&recast);
+    recast.iter_mut().filter(|event| event[0] == from).for_each(|event| event[0] = to);
+    [&recast.concat(), &trace[read..]].concat()
+}
+
 /// A request or event that has a spelling: kind, then its numbers, each at most `LARGEST`.
 pub fn piece(kind: u8, numbers: &[u32]) -> Vec<u8> {
     let mut bytes = vec![kind];
@@ -93,7 +101,8 @@ pub fn length(pieces: &Pieces) -> usize {
     pieces.iter().map(Vec::len).sum()
 }
 
-/// Pads with pieces of two and three bytes, none a touch, to exactly `limit`; room must not be 1.
+/// Pads with pieces of two and three bytes, none a grant or a touch, to exactly `limit`.
+/// Room must not be 1.
 pub fn pad(pieces: &mut Pieces, limit: usize) {
     let mut room = limit - length(pieces);
     while room > 3 {
@@ -101,7 +110,7 @@ pub fn pad(pieces: &mut Pieces, limit: usize) {
         room -= 2;
     }
     if room == 3 {
-        pieces.push(piece(2, &[1, 1]));
+        pieces.push(piece(4, &[1, 1]));
     } else if room == 2 {
         pieces.push(piece(5, &[1]));
     }

@@ -14,14 +14,14 @@ pub const TABLE_WORDS: usize = 2_048;
 /// Pairs (i, j): ticket i comes before ticket j.
 pub type Befores = BTreeSet<(u32, u32)>;
 
-/// The touches of a trace from left to right, each a ticket and a record.
-pub fn touches(trace: &[u8]) -> Result<Vec<(u32, u32)>, RefusalAt> {
+/// What tickets touched or were granted, from left to right, each access a ticket and a record.
+pub fn accesses(trace: &[u8]) -> Result<Vec<(u32, u32)>, RefusalAt> {
     let mut found = Vec::new();
     each_event(trace, |event| {
         if event.ticket() > MOST_CHANGES {
             return Err(27);
         }
-        if let Event::Touched { ticket, record } = event {
+        if let Event::Granted { ticket, record } | Event::Touched { ticket, record } = event {
             found.push((ticket, record));
         }
         Ok(())
@@ -29,11 +29,11 @@ pub fn touches(trace: &[u8]) -> Result<Vec<(u32, u32)>, RefusalAt> {
     Ok(found)
 }
 
-/// Every pair with a touch by the first earlier than a touch by the second of the same record.
-pub fn befores(touches: &[(u32, u32)]) -> Befores {
-    // Some touch by i is earlier than some by j if the first by i is earlier than the last by j.
+/// Every pair with an access by the first earlier than one by the second of the same record.
+pub fn befores(accesses: &[(u32, u32)]) -> Befores {
+    // Some access by i is earlier than some by j if the first by i is earlier than the last by j.
     let mut spans: BTreeMap<u32, BTreeMap<u32, (usize, usize)>> = BTreeMap::new();
-    for (place, &(ticket, record)) in touches.iter().enumerate() {
+    for (place, &(ticket, record)) in accesses.iter().enumerate() {
         let of_record = spans.entry(record).or_default();
         of_record.entry(ticket).or_insert((place, place)).1 = place;
     }
@@ -50,9 +50,9 @@ pub fn befores(touches: &[(u32, u32)]) -> Befores {
     pairs
 }
 
-/// The touching tickets in order, or `None` if the befores close a ring.
-pub fn list(touches: &[(u32, u32)], befores: &Befores) -> Option<Vec<u32>> {
-    let mut unlisted: BTreeSet<u32> = touches.iter().map(|&(ticket, _)| ticket).collect();
+/// The tickets with an access in order, or `None` if the befores close a ring.
+pub fn list(accesses: &[(u32, u32)], befores: &Befores) -> Option<Vec<u32>> {
+    let mut unlisted: BTreeSet<u32> = accesses.iter().map(|&(ticket, _)| ticket).collect();
     let mut listed = Vec::new();
     while !unlisted.is_empty() {
         // If none may stand, each has an unlisted one before it, and so there is a ring.
@@ -77,11 +77,11 @@ pub fn order(trace: &[u8], table: &mut [u32], places: &mut [u16]) -> Result<usiz
     if trace.len() > LONGEST_TRACE {
         return Err(RefusalAt { number: 26, offset: 0 });
     }
-    let touches = touches(trace)?;
-    let befores = befores(&touches);
+    let accesses = accesses(trace)?;
+    let befores = befores(&accesses);
     write_table(&befores, table);
     places.fill(0);
-    let Some(tickets) = list(&touches, &befores) else {
+    let Some(tickets) = list(&accesses, &befores) else {
         return Err(RefusalAt { number: 28, offset: 0 });
     };
     for (place, &ticket) in places.iter_mut().zip(&tickets) {

@@ -6,7 +6,7 @@ use rules::Changes;
 use second::audit::audit;
 use second::event::{each_event, spell_event, Event};
 use second::gen::audit_file;
-use second::order::{befores, list, touches};
+use second::order::{accesses, befores, list};
 use second::RefusalAt;
 use std::collections::{BTreeMap, BTreeSet};
 
@@ -171,8 +171,8 @@ fn an_accepted_trace_has_befores_without_a_ring() {
     let mut accepted = 0;
     for trace in traces(13, 4_000, 4_000) {
         // The order takes tickets to 256; longer traces are judged by the same rules.
-        if let (Ok(()), Ok(touches)) = (audited(&trace).0, touches(&trace)) {
-            assert!(list(&touches, &befores(&touches)).is_some());
+        if let (Ok(()), Ok(accesses)) = (audited(&trace).0, accesses(&trace)) {
+            assert!(list(&accesses, &befores(&accesses)).is_some());
             accepted += 1;
         }
     }

@@ -4,9 +4,9 @@ use second::audit::request_for;
 use second::desk::Answer;
 use second::event::{each_event, read_event};
 use second::gen::damage::spell;
-use second::gen::{audit_file, desk_file, order_file};
+use second::gen::{audit_file, desk_file, order_file, recast};
 use second::programs::Work;
-use second::{audit_text, desk_text, order_text};
+use second::{audit_text, desk_text, desk_trace, order_text};
 use std::collections::{BTreeMap, BTreeSet};
 
 /// Lines without their numbers, except those of waits and refusals.
@@ -84,6 +84,59 @@ fn traces_reach_every_line() {
         "ticket",
     ]);
     assert_eq!(kinds((0..1_000).map(|index| order_text(&order_file(1, index)))), expected);
+}
+
+/// What the grants of a trace do, if it has an order or a ring: held against it without them.
+fn grants_do(trace: &[u8]) -> Option<&'static str> {
+    // As releases they count for nothing, and so do touches.
+    let (text, touches) = (order_text(trace), order_text(&recast(trace, 2, 4)));
+    let is_ring = |text: &str| text.starts_with("refused 28");
+    if is_ring(&text) {
+        let of_grants = is_ring(&order_text(&recast(trace, 3, 4)));
+        return Some(match (of_grants, is_ring(&touches)) {
+            (true, true) => "a ring of grants and one of touches",
+            (true, false) => "a ring of grants alone",
+            (false, true) => "a ring of touches alone",
+            (false, false) => "a ring of grants and touches",
+        });
+    }
+    let count = |text: &str| text.lines().count();
+    match text.starts_with("order") {
+        true if count(&text) > count(&touches) => Some("an order that lists who only locked"),
+        true if text != touches => Some("an order with a before by a grant"),
+        true => Some("an order as without grants"),
+        false => None,
+    }
+}
+
+/// How often grants do each thing in some traces.
+fn tally(traces: impl Iterator<Item = Vec<u8>>) -> BTreeMap<&'static str, u32> {
+    let mut counts = BTreeMap::new();
+    for done in traces.filter_map(|trace| grants_do(&trace)) {
+        *counts.entry(done).or_default() += 1;
+    }
+    counts
+}
+
+#[test]
+fn traces_reach_all_that_grants_do() {
+    let counts = tally((0..2_000).map(|index| order_file(1, index)));
+    let floors = [
+        ("a ring of grants alone", 20),
+        ("a ring of touches alone", 20),
+        ("a ring of grants and touches", 50),
+        ("an order that lists who only locked", 300),
+        ("an order with a before by a grant", 10),
+        ("an order as without grants", 150),
+    ];
+    assert!(floors.iter().all(|(done, floor)| counts.get(done) > Some(floor)), "{counts:?}");
+}
+
+#[test]
+fn request_files_reach_changes_that_only_locked() {
+    let counts = tally((0..2_000).map(|index| desk_trace(&desk_file(1, index))));
+    assert!(counts.get("an order that lists who only locked") > Some(&500), "{counts:?}");
+    assert!(counts.keys().all(|done| done.starts_with("an order")), "{counts:?}");
 }
 
 #[test]

@@ -5,10 +5,10 @@ mod rules;
 use rules::Changes;
 use second::desk::{has, Answer};
 use second::gen::desk_file;
-use second::order::{befores, list, touches};
+use second::order::{accesses, befores, list};
 use second::programs::{Work, RECORDS};
 use second::request::{read_request, Request};
-use std::collections::BTreeMap;
+use std::collections::{BTreeMap, BTreeSet};
 
 /// All changes since the tables were cleared, and which of them has each seat.
 #[derive(Default)]
@@ -113,12 +113,17 @@ fn a_lock_is_granted_exactly_when_both_rules_hold_after_it() {
 fn no_chain_of_befores_of_a_desk_returns_to_its_start() {
     for index in 0..2_000 {
         let mut work = Work::cleared(RECORDS);
+        let mut granted = BTreeSet::new();
         for request in requests(&desk_file(4, index)) {
-            if work.desk.begun < 256 || request.kind() != 1 {
-                work.ask(request);
+            let begins = request.kind() == 1;
+            if (work.desk.begun < 256 || !begins) && work.ask(request) == Answer::Granted {
+                granted.insert(work.desk.seats[request.seat() as usize].ticket);
             }
         }
-        let touches = touches(&work.trace).unwrap();
-        assert!(list(&touches, &befores(&touches)).is_some());
+        let accesses = accesses(&work.trace).unwrap();
+        let listed = list(&accesses, &befores(&accesses)).unwrap();
+        // A change touches only what it was granted: whoever was granted something is listed.
+        assert_eq!(listed.len(), granted.len());
+        assert_eq!(listed.into_iter().collect::<BTreeSet<u32>>(), granted);
     }
 }

@@ -1,14 +1,26 @@
 //! The order of generated traces, checked word by word against its definition.
 
-use second::gen::order_file;
-use second::order::{order, touches};
+use second::gen::{events, order_file, recast};
+use second::number::read_number;
+use second::order::{accesses, order};
+use second::order_text;
 use std::collections::BTreeSet;
 
-/// The pairs straight from the definition: every two touches, the earlier and the later.
-fn pairs_by_definition(touches: &[(u32, u32)]) -> BTreeSet<(u32, u32)> {
+/// The accesses straight from the definition: ticket and record of each event of kind 2 or 3.
+fn accesses_by_definition(trace: &[u8]) -> Vec<(u32, u32)> {
+    let counts = |event: &Vec<u8>| event[0] == 2 || event[0] == 3;
+    let numbers = |event: Vec<u8>| {
+        let (ticket, length) = read_number(&event[1..]).unwrap();
+        (ticket, read_number(&event[1 + length..]).unwrap().0)
+    };
+    events(trace).into_iter().filter(counts).map(numbers).collect()
+}
+
+/// The pairs straight from the definition: every two accesses, the earlier and the later.
+fn pairs_by_definition(accesses: &[(u32, u32)]) -> BTreeSet<(u32, u32)> {
     let mut pairs = BTreeSet::new();
-    for (later, &(j, record)) in touches.iter().enumerate() {
-        for &(i, other) in &touches[..later] {
+    for (later, &(j, record)) in accesses.iter().enumerate() {
+        for &(i, other) in &accesses[..later] {
             if i != j && other == record {
                 pairs.insert((i, j));
             }
@@ -51,11 +63,11 @@ fn check_list(list: &[u32], tickets: &BTreeSet<u32>, pairs: &BTreeSet<(u32, u32)
 }
 
 /// Checks one trace that reads; gives whether it had a ring.
-fn check(trace: &[u8], touches: &[(u32, u32)]) -> bool {
+fn check(trace: &[u8], accesses: &[(u32, u32)]) -> bool {
     let mut table = [u32::MAX; 2_048];
     let mut places = [u16::MAX; 256];
     let outcome = order(trace, &mut table, &mut places);
-    let pairs = pairs_by_definition(touches);
+    let pairs = pairs_by_definition(accesses);
     for i in 1..=256 {
         for j in 1..=256 {
             assert_eq!(table_says(&table, i, j), pairs.contains(&(i, j)));
@@ -73,7 +85,7 @@ fn check(trace: &[u8], touches: &[(u32, u32)]) -> bool {
     assert!(places[count..].iter().all(|&place| place == 0));
     if !ring {
         let list: Vec<u32> = places[..count].iter().map(|&place| u32::from(place)).collect();
-        check_list(&list, &touches.iter().map(|&(ticket, _)| ticket).collect(), &pairs);
+        check_list(&list, &accesses.iter().map(|&(ticket, _)| ticket).collect(), &pairs);
     }
     ring
 }
@@ -85,8 +97,9 @@ fn generated_traces() {
         let trace = order_file(9, index);
         // Long traces take long by definition, and short ones reach every case.
         let short = trace.len() < 1_500;
-        if let (true, Ok(touches)) = (short, touches(&trace)) {
-            if check(&trace, &touches) {
+        if let (true, Ok(accesses)) = (short, accesses(&trace)) {
+            assert_eq!(accesses, accesses_by_definition(&trace));
+            if check(&trace, &accesses) {
                 rings += 1
             } else {
                 orders += 1
@@ -94,4 +107,14 @@ fn generated_traces() {
         }
     }
     assert!(rings > 200 && orders > 500);
+}
+
+#[test]
+fn a_grant_counts_as_a_touch_does() {
+    for index in 0..3_000 {
+        let trace = order_file(10, index);
+        let text = order_text(&trace);
+        assert_eq!(order_text(&recast(&trace, 2, 3)), text);
+        assert_eq!(order_text(&recast(&trace, 3, 2)), text);
+    }
 }

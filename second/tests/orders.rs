@@ -69,18 +69,63 @@ fn a_ring_in_one_record_and_a_ring_of_three() {
 }
 
 #[test]
-fn only_touches_count() {
-    let others = [1, 9, 2, 9, 5, 4, 9, 5, 5, 9];
-    assert_eq!(order_text(&others), "order 0\n");
-    // Grants and releases of one record by two changes give no befores.
-    assert_eq!(order_text(&[2, 2, 5, 4, 2, 5, 2, 1, 5, 3, 2, 7, 3, 1, 8]), "order 2\n1\n2\n");
+fn a_change_that_only_locked_is_listed() {
+    assert_eq!(order_text(&[2, 9, 5]), "order 1\n9\n");
+    assert_eq!(order_text(&[1, 9, 2, 9, 5, 4, 9, 5, 5, 9]), "order 1\n9\n");
+    // Ticket 2 kept the record still, and 1 touched it afterwards.
+    let (outcome, table, places) = call(&[2, 2, 5, 5, 2, 2, 1, 5, 3, 1, 5]);
+    assert_eq!(outcome, Ok(2));
+    assert_eq!(bits(&table), [(2, 1)]);
+    assert_eq!(places[..3], [2, 1, 0]);
 }
 
 #[test]
-fn touching_twice_is_no_before() {
-    let (outcome, table, _) = call(&[3, 4, 5, 3, 4, 5]);
-    assert_eq!(outcome, Ok(1));
+fn started_released_and_finished_count_for_nothing() {
+    let others = [1, 9, 4, 9, 5, 5, 9];
+    assert_eq!(order_text(&others), "order 0\n");
+    // Between the grants of two changes they give no befores either, whatever record is released.
+    let (outcome, table, _) = call(&[1, 2, 4, 2, 7, 2, 1, 7, 4, 1, 5, 2, 2, 5, 5, 1, 4, 2, 7]);
+    assert_eq!(outcome, Ok(2));
     assert_eq!(bits(&table), []);
+}
+
+#[test]
+fn a_grant_and_a_touch_give_a_before_either_way() {
+    for (first, second) in [(2, 2), (2, 3), (3, 2), (3, 3)] {
+        let (outcome, table, places) = call(&[first, 2, 5, second, 1, 5]);
+        assert_eq!(outcome, Ok(2));
+        assert_eq!(bits(&table), [(2, 1)]);
+        assert_eq!(places[..3], [2, 1, 0]);
+        // Of different records they give none.
+        assert_eq!(bits(&call(&[first, 2, 5, second, 1, 6]).1), []);
+    }
+}
+
+#[test]
+fn a_ring_of_grants_alone_and_rings_of_grants_and_touches() {
+    // The printed ring, with each of its four touches a touch or a grant.
+    for kinds in 0..16u8 {
+        let kind = |place: u8| 2 + (kinds >> place & 1);
+        let trace = [kind(0), 1, 5, kind(1), 2, 5, kind(2), 2, 6, kind(3), 1, 6];
+        let (outcome, table, places) = call(&trace);
+        assert_eq!(outcome, Err(RefusalAt { number: 28, offset: 0 }));
+        assert_eq!(bits(&table), [(1, 2), (2, 1)]);
+        assert!(places.iter().all(|&place| place == 0));
+    }
+    // A grant between two touches, and a touch between two grants.
+    assert_eq!(order_text(&[3, 1, 5, 2, 2, 5, 3, 1, 5]), "refused 28 at 0\n");
+    assert_eq!(order_text(&[2, 1, 5, 3, 2, 5, 2, 1, 5]), "refused 28 at 0\n");
+    // A release in place of the grant leaves the ring open.
+    assert_eq!(order_text(&[3, 1, 5, 4, 2, 5, 3, 1, 5]), "order 1\n1\n");
+}
+
+#[test]
+fn one_change_alone_is_no_before() {
+    for kinds in [[2, 2], [2, 3], [3, 2], [3, 3]] {
+        let (outcome, table, _) = call(&[kinds[0], 4, 5, kinds[1], 4, 5]);
+        assert_eq!(outcome, Ok(1));
+        assert_eq!(bits(&table), []);
+    }
 }
 
 #[test]

@@ -72,6 +72,31 @@ fn an_empty_file() {
 }
 
 #[test]
+fn a_surveyors_change_only_locks() {
+    let text = desk_text(&[1, 0, 2, 0, 6, 5, 0]);
+    assert_eq!(text, "started 1\ngranted\nfinished\norder 1\n1\n");
+    // The surveyor at seat 1 keeps the lower road still; the editor at seat 0 takes it afterwards.
+    let input = [1, 0, 1, 1, 2, 1, 6, 2, 0, 6, 5, 1, 2, 0, 6, 3, 0, 6, 5, 0];
+    let expected = [
+        "started 1",
+        "started 2",
+        "granted",
+        "wait 1",
+        "finished",
+        "granted",
+        "touched",
+        "finished",
+        "order 2",
+        "2",
+        "1",
+    ];
+    assert_eq!(lines(&desk_text(&input)), expected);
+    // One who is told to wait, and never asks again, has no place.
+    let waits = [1, 0, 1, 1, 2, 1, 6, 2, 0, 6, 5, 0];
+    assert!(desk_text(&waits).ends_with("finished\norder 1\n2\n"));
+}
+
+#[test]
 fn seat_31_and_32() {
     assert_eq!(desk_text(&[1, 31, 1, 32]), "started 1\nrefused 2\norder 0\n");
     // Any number there is reads as a seat.
@@ -133,7 +158,8 @@ fn a_refused_request_does_not_end_the_file() {
         "held",
         "released",
         "refused 8",
-        "order 0",
+        "order 1",
+        "1",
     ];
     assert_eq!(lines(&text), expected);
 }
@@ -178,7 +204,10 @@ fn a_finished_seat_is_in_no_wake_of_the_next() {
         "released",
         "wait 2",
         "granted",
-        "order 0",
+        "order 3",
+        "1",
+        "2",
+        "3",
     ];
     assert_eq!(lines(&desk_text(&input)), expected);
 }

@@ -10,7 +10,7 @@ pub struct Befores {
 }
 
 impl Befores {
-    /// Whether the first ticket touched some record earlier than the second did.
+    /// Whether the first ticket touched or was granted some record earlier than the second did.
     pub fn before(&self, first: u16, second: u16) -> bool {
         let tickets = 1..=LIST_PLACES;
         let (i, j) = (usize::from(first), usize::from(second));
@@ -25,7 +25,8 @@ impl Befores {
     }
 }
 
-/// The tickets that touched something, each after all that come before it, lowest first.
+/// The tickets that touched something or were granted something, each after all that come before
+/// it, lowest first.
 pub fn order(trace: &[u8]) -> Result<Vec<u16>, Fault> {
     order_and_befores(trace).0
 }

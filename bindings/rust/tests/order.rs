@@ -1,7 +1,8 @@
 //! The order: lists, the table of befores, and refusals 20 to 28 with their offsets.
 
 use saltlicker::names::{LIST_PLACES, TABLE_WORDS};
-use saltlicker::{order, order_and_befores, order_text, raw, Fault, Refusal};
+use saltlicker::Request::{Begin, Finish, Lock, Touch};
+use saltlicker::{append_event, order, order_and_befores, order_text, raw, Desk, Fault, Refusal};
 
 const RING: [u8; 12] = [3, 1, 5, 3, 2, 5, 3, 2, 6, 3, 1, 6];
 
@@ -12,7 +13,8 @@ fn fault(number: u32, offset: usize) -> Fault {
 #[test]
 fn lists_go_by_befores_then_by_ticket() {
     assert_eq!(order(&[]).unwrap(), []);
-    assert_eq!(order(&[1, 1, 2, 1, 5, 5, 1]).unwrap(), []);
+    assert_eq!(order(&[1, 1, 4, 1, 5, 5, 1]).unwrap(), []);
+    assert_eq!(order(&[1, 1, 2, 1, 5, 5, 1]).unwrap(), [1]);
     assert_eq!(order(&[3, 2, 5, 3, 1, 5]).unwrap(), [2, 1]);
     assert_eq!(order(&[3, 2, 5, 3, 1, 6]).unwrap(), [1, 2]);
     assert_eq!(order(&[3, 0x80, 2, 0, 3, 1, 0]).unwrap(), [256, 1]);
@@ -29,6 +31,43 @@ fn the_table_has_the_pairs() {
     for odd in [0, 257, u16::MAX] {
         assert!(!befores.before(odd, 1) && !befores.before(256, odd));
     }
+}
+
+/// A surveyor at seat 1 keeps the lower road still; an editor at seat 0 works on it afterwards.
+fn surveyed() -> Vec<u8> {
+    let (editor, surveyor, road) = (0, 1, 6);
+    let replies = Desk::new(256).unwrap().ask_all(&[
+        Begin { seat: editor },
+        Begin { seat: surveyor },
+        Lock { seat: surveyor, record: road },
+        Finish { seat: surveyor },
+        Lock { seat: editor, record: road },
+        Touch { seat: editor, record: road },
+        Finish { seat: editor },
+    ]);
+    let mut trace = Vec::new();
+    for event in replies.into_iter().filter_map(|reply| reply.event) {
+        append_event(&mut trace, event).unwrap();
+    }
+    trace
+}
+
+#[test]
+fn a_change_that_only_locked_is_listed() {
+    let (list, befores) = order_and_befores(&surveyed());
+    assert_eq!(list.unwrap(), [2, 1]);
+    assert!(befores.before(2, 1) && !befores.before(1, 2));
+    assert_eq!(order_text(&surveyed()), "order 2\n2\n1\n");
+}
+
+#[test]
+fn grants_close_a_ring() {
+    let grants = [2, 1, 5, 2, 2, 5, 2, 2, 6, 2, 1, 6];
+    let (list, befores) = order_and_befores(&grants);
+    assert_eq!(list, Err(fault(28, 0)));
+    assert!(befores.before(1, 2) && befores.before(2, 1));
+    // A grant between two touches closes one too.
+    assert_eq!(order(&[3, 1, 5, 2, 2, 5, 3, 1, 5]), Err(fault(28, 0)));
 }
 
 #[test]

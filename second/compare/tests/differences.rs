@@ -6,6 +6,7 @@ use compare::calls::model::SECOND;
 use compare::calls::{Calls, PLACE};
 use compare::run::{run, Difference, Proved};
 use compare::texts::{Program, AUDIT, DESK, ORDER};
+use second::gen::recast;
 use wrong::{found, put, smallest};
 
 /// The second program on both sides.
@@ -58,7 +59,34 @@ fn an_order_that_sees_no_ring() {
     let proved = |trace: &[u8], room: &mut [u8]| {
         put(second::order_text(trace), "refused 28 at 0", "order 0", room)
     };
-    assert_eq!(smallest(Program { proved, ..ORDER }), [3, 1, 0, 3, 2, 0, 3, 1, 0]);
+    assert_eq!(smallest(Program { proved, ..ORDER }), [2, 1, 0, 2, 2, 0, 2, 1, 0]);
+}
+
+/// Puts the order of a trace with events of one kind as of another; refusals 20 to 27 stay.
+fn put_recast(trace: &[u8], from: u8, to: u8, room: &mut [u8]) -> usize {
+    put(second::order_text(&recast(trace, from, to)), "", "", room)
+}
+
+#[test]
+fn an_order_that_counts_touches_only_or_grants_only_or_releases_too() {
+    // What is a release instead does not count, and what is a touch instead does.
+    let touches = |trace: &[u8], room: &mut [u8]| put_recast(trace, 2, 4, room);
+    assert_eq!(smallest(Program { proved: touches, ..ORDER }), [2, 1, 0]);
+    let grants = |trace: &[u8], room: &mut [u8]| put_recast(trace, 3, 4, room);
+    assert_eq!(smallest(Program { proved: grants, ..ORDER }), [3, 1, 0]);
+    let releases = |trace: &[u8], room: &mut [u8]| put_recast(trace, 4, 3, room);
+    assert_eq!(smallest(Program { proved: releases, ..ORDER }), [4, 1, 0]);
+}
+
+#[test]
+fn an_order_in_which_grants_close_no_ring() {
+    let proved = |trace: &[u8], room: &mut [u8]| {
+        let of_touches = second::order_text(&recast(trace, 2, 4)).starts_with("refused 28");
+        let to = if of_touches { "refused 28 at 0" } else { "order 0" };
+        put(second::order_text(trace), "refused 28 at 0", to, room)
+    };
+    let trace = smallest(Program { proved, ..ORDER });
+    assert_eq!((trace.len(), second::order_text(&trace).as_str()), (9, "refused 28 at 0\n"));
 }
 
 #[test]
@@ -135,6 +163,20 @@ fn an_order_that_leaves_the_list_at_a_ring() {
         let answer = (SECOND.order)(trace, table, list);
         if answer >> 32 == 28 {
             list.copy_from_slice(&before);
+        }
+        answer
+    };
+    assert!(found(Calls { order, ..SECOND }));
+}
+
+#[test]
+fn a_table_of_befores_by_touches_only() {
+    let order = |trace: &[u8], table: &mut [u32], list: &mut [u16]| {
+        let answer = (SECOND.order)(trace, table, list);
+        if answer >> 32 == 208 {
+            // The list stays, so only the table tells.
+            let mut places = [0; 256];
+            (SECOND.order)(&recast(trace, 2, 4), table, &mut places);
         }
         answer
     };

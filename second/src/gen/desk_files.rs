@@ -81,12 +81,14 @@ fn many_changes(rng: &mut Rng) -> Pieces {
     floor.pieces()
 }
 
-/// A change that begins, has a record, and finishes.
+/// A change that begins, has a record, and finishes; a surveyor's, one in four, only locks.
 pub fn one_change(rng: &mut Rng, floor: &mut Floor) {
     let (seat, record) = (rng.below(32), rng.below(4));
     floor.ask(Request::Begin { seat });
     floor.ask(Request::Lock { seat, record });
-    floor.ask(Request::Touch { seat, record });
+    if !rng.chance(25) {
+        floor.ask(Request::Touch { seat, record });
+    }
     floor.ask(Request::Finish { seat });
 }
 

@@ -30,29 +30,36 @@ fn scattered(rng: &mut Rng) -> Pieces {
     (0..count).map(|_| any_event(rng, tickets, records)).collect()
 }
 
-/// An event of any kind, a touch three times in four.
+/// An event of any kind, thirteen times in sixteen a grant or a touch, one as often as the other.
 fn any_event(rng: &mut Rng, tickets: u32, records: u32) -> Vec<u8> {
     let (ticket, record) = (rng.between(1, tickets), rng.below(records));
     match rng.below(16) {
         0 => piece(1, &[ticket]),
-        1 => piece(2, &[ticket, record]),
-        2 => piece(4, &[ticket, record]),
-        3 => piece(5, &[ticket]),
-        _ => piece(3, &[ticket, record]),
+        1 => piece(4, &[ticket, record]),
+        2 => piece(5, &[ticket]),
+        _ => piece(rng.pick(&[2, 3]), &[ticket, record]),
     }
 }
 
-/// Touches that follow a hidden row of tickets in every record, so that no ring closes.
+/// The kinds of a trace's accesses, to be drawn from: grants alone, touches alone, or both.
+type Kinds = &'static [u8];
+
+fn some_kinds(rng: &mut Rng) -> Kinds {
+    rng.pick(&[&[2], &[3], &[2, 3], &[2, 3], &[2, 2, 2, 3], &[2, 3, 3, 3]])
+}
+
+/// Accesses that follow a hidden row of tickets in every record, so that no ring closes.
 fn ordered(rng: &mut Rng) -> Pieces {
     let tickets = rng.pick(&[2, 3, 4, 8, 30, 256]);
     let records = rng.between(1, 20);
     let count = rng.between(1, 300) as usize;
     let mut row = Row::new(rng, tickets, records);
-    (0..count).map(|_| row.touch(rng)).collect()
+    (0..count).map(|_| row.access(rng)).collect()
 }
 
-/// A hidden row of tickets, and for each record how far along the row its touches have come.
+/// A hidden row of tickets, and for each record how far along the row its accesses have come.
 struct Row {
+    kinds: Kinds,
     tickets: Vec<u32>,
     reached: Vec<usize>,
     first_record: u32,
@@ -64,25 +71,28 @@ impl Row {
         rng.shuffle(&mut row);
         row.truncate(tickets as usize);
         let reached = (0..records).map(|_| rng.place(row.len())).collect();
-        Row { tickets: row, reached, first_record: rng.below(4_097 - records) }
+        let (kinds, first_record) = (some_kinds(rng), rng.below(4_097 - records));
+        Row { kinds, tickets: row, reached, first_record }
     }
 
-    /// A touch of some record, by the ticket it had reached or one further along.
-    fn touch(&mut self, rng: &mut Rng) -> Vec<u8> {
+    /// A grant or touch of some record, by the ticket it had reached or one further along.
+    fn access(&mut self, rng: &mut Rng) -> Vec<u8> {
         let place = rng.place(self.reached.len());
         let further = self.reached[place] + rng.below(3) as usize;
         self.reached[place] = further.min(self.tickets.len() - 1);
         let ticket = self.tickets[self.reached[place]];
-        piece(3, &[ticket, self.first_record + place as u32])
+        piece(rng.pick(self.kinds), &[ticket, self.first_record + place as u32])
     }
 }
 
-/// A ring of befores, sometimes with one missing so that it stays open.
+/// A ring of befores by grants, touches or both, sometimes with one missing so that it stays open.
 fn ring(rng: &mut Rng) -> Pieces {
     let size = rng.pick(&[2, 2, 3, 3, 4, 7, 40, 256]);
     let mut tickets: Vec<u32> = (1..=256).collect();
     rng.shuffle(&mut tickets);
-    let mut links: Vec<Pieces> = (0..size).map(|place| link(&tickets[..size], place)).collect();
+    tickets.truncate(size);
+    let kinds = some_kinds(rng);
+    let mut links: Vec<Pieces> = (0..size).map(|place| link(rng, kinds, &tickets, place)).collect();
     if rng.chance(50) {
         links.remove(rng.place(size));
     }
@@ -90,17 +100,17 @@ fn ring(rng: &mut Rng) -> Pieces {
     if rng.chance(50) {
         return links.concat();
     }
-    // All first touches, then all second ones: the pairs are the same.
+    // All first accesses, then all second ones: the pairs are the same.
     let firsts = links.iter().map(|link| link[0].clone());
     let seconds = links.iter().map(|link| link[1].clone());
     firsts.chain(seconds).collect()
 }
 
-/// A touch by the ticket at a place of the ring and then by the next, of a record of their own.
-fn link(tickets: &[u32], place: usize) -> Pieces {
+/// An access by the ticket at a place of the ring and then by the next, of a record of their own.
+fn link(rng: &mut Rng, kinds: Kinds, tickets: &[u32], place: usize) -> Pieces {
     let next = tickets[(place + 1) % tickets.len()];
     let record = 300 + place as u32;
-    vec![piece(3, &[tickets[place], record]), piece(3, &[next, record])]
+    [tickets[place], next].map(|ticket| piece(rng.pick(kinds), &[ticket, record])).to_vec()
 }
 
 /// A trace up to, at or just over 65,536 bytes.
@@ -108,13 +118,13 @@ fn long(rng: &mut Rng) -> Pieces {
     let records = rng.pick(&[1, 10, 300, 4_096]);
     let mut row = Row::new(rng, 256, records);
     let mut pieces = Pieces::new();
-    // The hidden row's last ticket touching first closes a ring across the trace.
+    // The hidden row's last ticket coming first closes a ring across the trace.
     if rng.chance(30) {
-        pieces.push(piece(3, &[row.tickets[255], row.first_record]));
+        pieces.push(piece(rng.pick(row.kinds), &[row.tickets[255], row.first_record]));
     }
     let mut used = super::length(&pieces);
     while used < LONGEST_TRACE - 7 {
-        let event = row.touch(rng);
+        let event = row.access(rng);
         used += event.len();
         pieces.push(event);
     }
@@ -136,7 +146,7 @@ fn limits(rng: &mut Rng) -> Pieces {
         let ticket = limit_ticket(rng);
         let records = if rng.chance(4) { &PAST } else { &RECORDS };
         let record = rng.pick(records);
-        let kind = rng.pick(&[1, 2, 3, 3, 3, 4, 5]);
+        let kind = rng.pick(&[1, 2, 2, 3, 3, 4, 5]);
         let numbers = [ticket, record];
         let has_record = (2..=4).contains(&kind);
         pieces.push(piece(kind, if has_record { &numbers } else { &numbers[..1] }));
