@@ -15,7 +15,7 @@ type Row = [u32; 8];
 struct Rows {
     accessors: [Row; RECORDS as usize],
     befores: [Row; TICKETS],
-    accessing: Row,
+    due: Row,
 }
 
 fn has(row: &Row, t: usize) -> bool {
@@ -57,7 +57,7 @@ impl Rows {
     const EMPTY: Rows = Rows {
         accessors: [[0; 8]; RECORDS as usize],
         befores: [[0; 8]; TICKETS],
-        accessing: [0; 8],
+        due: [0; 8],
     };
 
     fn walk(&mut self, trace: &[u8]) -> Result<(), Refusal> {
@@ -85,14 +85,14 @@ impl Rows {
         }
         befores[t / 32] &= !(1 << (t % 32));
         set(accessors, t);
-        set(&mut self.accessing, t);
+        set(&mut self.due, t);
     }
 
     fn settle(&self, table: &mut [u32], list: &mut [u16]) -> u64 {
         self.fill_table(table);
         let listed = self.fill_places(list);
-        if within(&self.accessing, &listed) {
-            let count = (0..TICKETS).filter(|&t| has(&self.accessing, t)).count();
+        if within(&self.due, &listed) {
+            let count = (0..TICKETS).filter(|&t| has(&self.due, t)).count();
             return 208 << 32 | count as u64;
         }
         list.fill(0);
@@ -124,6 +124,6 @@ impl Rows {
     }
 
     fn is_ready(&self, listed: &Row, t: usize) -> bool {
-        has(&self.accessing, t) && !has(listed, t) && within(&self.befores[t], listed)
+        has(&self.due, t) && !has(listed, t) && within(&self.befores[t], listed)
     }
 }

@@ -10,6 +10,7 @@ fn main() {
     numbers();
     faults();
     orders();
+    locked();
     sizes();
 }
 
@@ -164,6 +165,26 @@ fn orders() {
     trace(b"# Ticket 0: 23\n", b"\x01\x01\x01\x00");
     trace(b"# Record 4,096: 23\n", b"\x03\x01\x80\x20");
     trace(b"# Record 65,536: 23\n", b"\x03\x01\x80\x80\x04");
+}
+
+// A grant counts as well as a touch, and nothing else does.
+fn locked() {
+    file(
+        b"# A surveyor (2) only locks the lower road, before an editor (1) touches it: both are listed\n",
+        b"\x01\x00\x01\x01\x02\x01\x06\x02\x00\x06\x05\x01\x02\x00\x06\x03\x00\x06\x05\x00",
+    );
+    trace(
+        b"# Ticket 2 only locks before 1 touches\n",
+        b"\x02\x02\x05\x03\x01\x05",
+    );
+    trace(
+        b"# Befores of grants alone close a ring: 28\n",
+        b"\x02\x01\x05\x02\x02\x05\x02\x02\x06\x02\x01\x06",
+    );
+    trace(
+        b"# Started, released and finished count for nothing\n",
+        b"\x01\x01\x04\x01\x05\x05\x01",
+    );
 }
 
 // One byte more than the limits of a request file and of a trace.
