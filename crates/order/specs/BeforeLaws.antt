@@ -20,12 +20,12 @@ before-self [] i = refl
 before-self (access t q ∷ ts) i = rw (before-self ts i, eq-eqb i i refl)
 
 -- an event is an access of r by t and no other, or none
-pub data Seen (e : Event) : Type 0 where
+data Seen (e : Event) : Type 0 where
   one : (t r : ℕ) → ((ts : List Access) → counted e ts ≡ access t r ∷ ts) → ((i q : ℕ) → Accesses i q e ↔ ((t ≡ i) × (r ≡ q))) → Seen e
   none : ((ts : List Access) → counted e ts ≡ ts) → ((i q : ℕ) → Accesses i q e → ⊥) → Seen e
 
 -- every event is one of these
-pub seen : (e : Event) → Seen e
+seen : (e : Event) → Seen e
 unfolding pick
 seen (Started t) = none (λ ts. refl) (λ i q. ⊎-elim (λ y. clash (cc)) (λ y. clash (cc)))
 seen (Granted t r) = one t r (λ ts. refl) (λ i q. (⊎-elim (λ y. (cc, cc)) (λ y. absurd (clash (cc))), λ x. inl (ap₂ Granted (x .0) (x .1))))

@@ -159,7 +159,6 @@ ordered-few trace table list {k} = go (went trace table list)
     go (ringed a c) e = absurd (clash (cc))
     go (in-order {h} a c) e = let k-is : countOf h ≡ k = cc in omega (arith, count-le tickets (someAccess (accesses h)))
 
--- so the order that it says lies within its list
 -- ---- the order list
 
 -- it is the only one, and so is its K

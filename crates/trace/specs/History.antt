@@ -48,7 +48,7 @@ pub data Earlier (P Q : Kind) : History → Type 0 where
   closing : {e : Event} {h : History} → Some P h → Q e → Earlier P Q (e ∷ h)
   closed : {e : Event} {h : History} → Earlier P Q h → Earlier P Q (e ∷ h)
 
--- i comes before j: they differ, and some work by i stands earlier than some work by j on the same record; what counts as work is `Accesses` (it was `Touches`)
+-- i comes before j: they differ, and some work by i stands earlier than some work by j on the same record; the order counts `Accesses` as work
 pub record Before (work : ℕ → ℕ → Kind) (h : History) (i j : ℕ) : Type 0 where
   pub apart : i ≢ j
   pub on : ℕ
