@@ -1,4 +1,4 @@
--- What the order said when touches alone counted, and says still: whom it names, what it puts forward, and its rings.
+-- What the order keeps from when touches alone counted: its rings, and, where it still gives a list, whom it named and what it put forward.
 use Prim.Native.Nat.{ℕ, _<_}
 use mathlib.Core.Path.{_≡_}
 use mathlib.Core.Logic.{inr}
@@ -18,11 +18,11 @@ use Rattle.order.specs.Theorems.{befores-first, ring-exactly}
 old-before : {h : History} (i j : ℕ) → Before Touches h i j → Before Accesses h i j
 old-before i j = before-map (λ t r e. inr)
 
--- each change that touched anything is named
+-- a list names each change that touched anything
 pub old-named : {h : History} {K : ℕ} {xs : List ℕ} → OrderList h K xs → (t r : ℕ) → Some (Touches t r) h → Stands xs K t
 old-named l t r s = l .every t (record { on = r; some = some-map (λ e. inr) s })
 
--- nothing stands later than a change that touched some record after it did
+-- and in it nothing stands later than a change that touched some record after it did
 pub old-first : {h : History} {K : ℕ} {xs : List ℕ} → OrderList h K xs → (p q : ℕ) → p < K → q < K → Before Touches h (getD xs p 0) (getD xs q 0) → p < q
 old-first l p q a b y = befores-first l p q a b (old-before _ _ y)
 

@@ -6,7 +6,6 @@ use lib.Dec.{ltb, eqb}
 use lib.ListN.{length, replicate}
 use Rattle.words.specs.Tests.{pick}
 use Rattle.words.specs.Rows.{words}
-use Rattle.trace.specs.History.{History}
 use Rattle.trace.specs.History.{History, Accesses, Before}
 use Rattle.order.specs.Limits.{tickets, tableWords, longest}
 use Rattle.order.specs.Counting.{count}
