@@ -7,7 +7,7 @@ ghost use lib.Dec.{eqb};
 ghost use lib.ListN.{length};
 ghost use Rattle.desk.specs.Limits.{seats};
 ghost use Rattle.desk.specs.Answers.{number, said, rule};
-ghost use Rattle.desk.specs.Step.{state, after, opened, freeSeat, fitting, clearing, seatOf, beginStep, setBit, lockRule, withLock, holdRule, clearBit, leftWake, finishStep, step};
+ghost use Rattle.desk.specs.Step.{state, after, opened, freeSeat, fitting, clearing, seatOf, beginStep, setBit, lockRule, withLock, holdRule, leftWake, finishStep, step};
 ghost use Rattle.desk.specs.Seats.{Locks, Touches, Releases};
 
 // How many seats a desk has. It stands once more, in specs/Limits.antt.
@@ -384,17 +384,6 @@ fn release(held: &[u32], released: &mut [u32], live: bool, s: u32, a: usize) -> 
     }
 }
 
-// Clear seat s's bit in every word of a table.
-fn clear_bit(t: &mut [u32], s: u32)
-    ensures { λ _. ⌜ now (t .exit) ≡ clearBit (now (t .entry)) s ⌝ }
-{
-    let mut i = 0;
-    while i < t.len() {
-        t[i] = words::without_bit(t[i], s);
-        i += 1;
-    }
-}
-
 // Take seat s out of one seat's wake.
 fn left_wake(seat: Seat, s: u32) -> Seat
     ensures { λ r. ⌜ r ≡ leftWake s seat ⌝ }
@@ -435,8 +424,8 @@ fn finish(held: &mut [u32], released: &mut [u32], desk: Desk, s: u32) -> Reply
             desk,
         };
     }
-    clear_bit(held, s);
-    clear_bit(released, s);
+    words::clear_bit(held, s);
+    words::clear_bit(released, s);
     let all = desk.seats;
     let mut left = left_wakes(all, s);
     left[i] = free_seat();

@@ -8,6 +8,7 @@ pub mod RowLaws
 -- Tests, lists, relations
 pub mod Tests
 pub mod Passes
+pub mod Each
 pub mod Parts
 pub mod Chains
 -- Promises

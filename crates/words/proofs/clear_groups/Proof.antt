@@ -1,0 +1,60 @@
+-- `words::clear_groups` meets its contract: one part of the pass after another.
+use borrow.Author.Needs.{needs}
+use Prim.Native.Nat.{_-_, _≤_}
+use Rattle.words.specs.Word.{without}
+use Rattle.words.specs.Passes.{Carried, carry-begin, carry-join}
+use Rattle.words.proofs.clear_groups.Statement.{statement}
+use Rattle.words.proofs.clear_groups.Tie as tie
+
+abbrev Inv-loop : tie.InvT-loop
+Inv-loop t₀ from to s i₀ t i = Carried (λ w. without w s) from i t₀ t × (i ≤ to)
+
+abbrev μ-loop : tie.MeasureT-loop
+μ-loop t₀ from to s i₀ t i = to - i
+
+loop-holds : tie.Need-loop-holds Inv-loop μ-loop
+loop-holds c = (carry-begin _ _ _, search needs)
+
+sub-loop : tie.Need-sub-loop Inv-loop μ-loop
+sub-loop c = search needs
+
+add-clear-group : tie.Need-add-clear-group Inv-loop μ-loop
+add-clear-group c = search needs
+
+clear-group-requires : tie.Need-clear-group-requires Inv-loop μ-loop
+clear-group-requires c κs = search needs
+
+add-i : tie.Need-add-i Inv-loop μ-loop
+add-i c = search needs
+
+loop-less : tie.Need-loop-less Inv-loop μ-loop
+loop-less c = search needs
+
+loop-again : tie.Need-loop-again Inv-loop μ-loop
+loop-again c = (search (carry-join, needs), search needs)
+
+clear-words-requires : tie.Need-clear-words-requires Inv-loop μ-loop
+clear-words-requires c κs = search needs
+
+same-length : tie.Need-same-length Inv-loop μ-loop
+same-length c = search needs
+
+returns : tie.Need-returns Inv-loop μ-loop
+returns c = search (carry-join, needs)
+
+pub clear-groups-spec : {M : Type 1} → statement M
+clear-groups-spec =
+    tie.close
+    (tie.spec
+    Inv-loop
+    μ-loop
+    loop-holds
+    sub-loop
+    add-clear-group
+    clear-group-requires
+    add-i
+    loop-less
+    loop-again
+    clear-words-requires
+    same-length
+    returns)
