@@ -1,9 +1,10 @@
 //! Each request kind alone: where it starts from, its requests, and the answer all of them get.
 
-use crate::desk::{Desk, Request};
+use crate::desk::{Desk, Request, SEATS};
 use crate::in_place::judge;
 use crate::mixed;
 use crate::state::State;
+use second::gen::rng::Rng;
 
 /// How many records the tables have, unless a case says otherwise.
 pub const RECORDS: u32 = 4_096;
@@ -31,8 +32,22 @@ impl Case {
 }
 
 /// The names of all cases, the mixed script last.
-pub const KEYS: [&str; 10] =
-    ["pair", "finish", "grant", "held", "wait1", "wait2", "touch", "release", "refused", "mixed"];
+pub const KEYS: [&str; 14] = [
+    "pair",
+    "finish",
+    "finish_none",
+    "finish_few",
+    "finish_half",
+    "finish_all",
+    "grant",
+    "held",
+    "wait1",
+    "wait2",
+    "touch",
+    "release",
+    "refused",
+    "mixed",
+];
 
 /// The case of a name.
 pub fn named(key: &str) -> Case {
@@ -41,6 +56,10 @@ pub fn named(key: &str) -> Case {
     match key {
         "pair" => case("BEGIN, FINISH; 1 record", State::cleared(1), pairs(4_096), &[101, 105]),
         "finish" => case("BEGIN, FINISH; 4,096 records", cleared(), pairs(256), &[101, 105]),
+        "finish_none" => case("FINISH, no bits", no_bits(), seats(FINISH), &[105]),
+        "finish_few" => case("FINISH, few bits", few_bits(), seats(FINISH), &[105]),
+        "finish_half" => case("FINISH, half the bits", half_the_bits(), seats(FINISH), &[105]),
+        "finish_all" => case("FINISH, all bits", all_bits(), seats(FINISH), &[105]),
         "grant" => case("LOCK granted", began(), each(LOCK, 0), &[102]),
         "held" => case("LOCK held", owned(), each(LOCK, 0), &[201]),
         "wait1" => case("LOCK wait 1", owned(), each(LOCK, 1), &[202]),
@@ -62,6 +81,11 @@ fn each(kind: u32, seat: u32) -> Vec<u32> {
 
 fn pairs(count: usize) -> Vec<u32> {
     [BEGIN, 3, 0, FINISH, 3, 0].repeat(count)
+}
+
+/// BEGIN or FINISH of each seat in turn.
+fn seats(kind: u32) -> Vec<u32> {
+    (0..SEATS as u32).flat_map(|seat| [kind, seat, 0]).collect()
 }
 
 /// Not by a side's own batch call, so that a count of its instructions has none of the set-up.
@@ -87,4 +111,40 @@ fn owned() -> State {
 /// And has released them, so that seat 1, with a lock outside that wake, may not have them.
 fn given_up() -> State {
     after(owned(), &each(RELEASE, 0))
+}
+
+/// All seats have begun. Bits are laid on this by hand, since the calls serve any tables.
+fn no_bits() -> State {
+    after(State::cleared(RECORDS as usize), &seats(BEGIN))
+}
+
+/// Each seat has bits in four words of held, and in two of those in released, far apart; no word has two seats' bits.
+fn few_bits() -> State {
+    let mut state = no_bits();
+    for nth in 0..4 * SEATS {
+        // An odd factor, so that no two come to the same word.
+        let (record, bit) = (nth * 997 % RECORDS as usize, 1 << (nth / 4));
+        state.held[record] |= bit;
+        if nth % 2 == 0 {
+            state.released[record] |= bit;
+        }
+    }
+    state
+}
+
+/// Each seat has bits in about half the words of both tables, the same ones each time.
+fn half_the_bits() -> State {
+    let (mut state, mut rng) = (no_bits(), Rng::of_file(1, 0));
+    for word in state.held.iter_mut().chain(&mut state.released) {
+        *word = rng.next() as u32;
+    }
+    state
+}
+
+/// Each seat has bits in every word of both tables.
+fn all_bits() -> State {
+    let mut state = no_bits();
+    state.held.fill(u32::MAX);
+    state.released.fill(u32::MAX);
+    state
 }

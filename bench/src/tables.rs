@@ -68,7 +68,8 @@ fn may_work(h: u32, r: u32, live: bool, s: u32) -> Result<(), Refusal> {
     }
 }
 
-/// Clears seat s's bit in every word.
+/// Clears seat s's bit in every word, and stores every word, also those without the bit, which the proved pass leaves alone:
+/// beside it the rows of FINISH show what that costs or saves.
 pub fn leave(table: &mut [u32], s: u32) {
     for word in table {
         *word &= !(1 << s);
