@@ -18,11 +18,11 @@ loop-holds c = (carry-begin _ _ _, search needs)
 sub-loop : tie.Need-sub-loop Inv-loop μ-loop
 sub-loop c = search needs
 
-add-clear-group : tie.Need-add-clear-group Inv-loop μ-loop
-add-clear-group c = search needs
+add-clear-words : tie.Need-add-clear-words Inv-loop μ-loop
+add-clear-words c = search needs
 
-clear-group-requires : tie.Need-clear-group-requires Inv-loop μ-loop
-clear-group-requires c κs = search needs
+clear-words-requires : tie.Need-clear-words-requires Inv-loop μ-loop
+clear-words-requires c κs = search needs
 
 add-i : tie.Need-add-i Inv-loop μ-loop
 add-i c = search needs
@@ -33,8 +33,8 @@ loop-less c = search needs
 loop-again : tie.Need-loop-again Inv-loop μ-loop
 loop-again c = (search (carry-join, needs), search needs)
 
-clear-words-requires : tie.Need-clear-words-requires Inv-loop μ-loop
-clear-words-requires c κs = search needs
+clear-words-requires-2 : tie.Need-clear-words-requires-2 Inv-loop μ-loop
+clear-words-requires-2 c κs = search needs
 
 same-length : tie.Need-same-length Inv-loop μ-loop
 same-length c = search needs
@@ -50,11 +50,11 @@ clear-groups-spec =
     μ-loop
     loop-holds
     sub-loop
-    add-clear-group
-    clear-group-requires
+    add-clear-words
+    clear-words-requires
     add-i
     loop-less
     loop-again
-    clear-words-requires
+    clear-words-requires-2
     same-length
     returns)
