@@ -1,5 +1,5 @@
 /* Tables on copy-on-write pages: FINISH stores only words that have the seat's bit, so a page without one is not copied. Each case
-   lays both tables in a file, maps it privately, finishes a seat there and prints how many pages the kernel then counts as private.
+   lays both tables in a file, maps it privately, finishes a seat there and prints how many pages the kernel then counts as copies.
    Exits 0 only if all are as many as they must be and the tables hold what they must. */
 #define _POSIX_C_SOURCE 200809L
 #include "saltlicker.h"
@@ -17,22 +17,21 @@ static char name[] = "/tmp/saltlicker-pages-XXXXXX"; /* by which the kernel's li
 static int file;
 static uint32_t *laid; /* the file's own words: held, then released */
 
-/* Maps both tables. Pages of the file that only one mapping has would count as its private ones even if they are only read: `laid`
-   maps them too, so those that count are copies. */
+/* Maps both tables. */
 static uint32_t *map(int how) {
     uint32_t *tables = mmap(NULL, WORDS * sizeof *tables, PROT_READ | PROT_WRITE, how, file, 0);
     if (tables == MAP_FAILED) perror("mmap"), exit(2);
     return tables;
 }
 
-/* How many bytes of the private mapping are copies. It is found by its name, since an emulator has addresses of its own. */
+/* How many bytes of the private mapping are no longer the file's. It is found by name, since an emulator has addresses of its own. */
 static size_t copied(void) {
     FILE *list = fopen("/proc/self/smaps", "r");
     char line[512], kind[5];
     size_t all = 0, kib;
     for (int ours = 0; list != NULL && fgets(line, sizeof line, list) != NULL;) {
         if (sscanf(line, "%*x-%*x %4s", kind) == 1) ours = kind[3] == 'p' && strstr(line, name) != NULL;
-        if (ours && sscanf(line, "Private_Dirty: %zu kB", &kib) == 1) all += 1024 * kib;
+        if (ours && sscanf(line, "Anonymous: %zu kB", &kib) == 1) all += 1024 * kib;
     }
     if (list != NULL) fclose(list);
     return all;

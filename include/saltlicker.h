@@ -105,9 +105,9 @@ saltlicker_answer saltlicker_clear(uint32_t *held, size_t held_words, uint32_t *
    JUDGED, also where requests are refused: those say so in their own answers. There must be three words of requests to each
    answer, else WRONG_LENGTH and no answer is written.
 
-   Of the tables, FINISH stores only the words that have the seat's bit, LOCK and RELEASE one word when they are granted, and other
-   requests none (examples/pages.c counts pages by it); the desk's 67 words are stored by every call, also where all requests are
-   refused, but not with WRONG_LENGTH.
+   Of the tables, FINISH stores only the words that have the seat's bit (examples/pages.c counts the pages), a LOCK that is granted
+   and a RELEASE that is not refused one word, and all else none. The desk's 67 words are stored by every call but with
+   WRONG_LENGTH, also where all requests are refused.
 
    The caller keeps the trace: an answer of 101 to 105 calls for saltlicker_write of kind code - 100, with the record asked for
    and the seat's ticket: the value of STARTED, or else word 2s of the desk from before the request, since FINISH takes it away.
