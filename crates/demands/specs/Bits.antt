@@ -1,16 +1,17 @@
 -- Bits of words and elements of lists after a store, as `↔`.
 use Prim.Native.Nat.{ℕ, _<_}
-use mathlib.Core.Path.{_≡_, subst}
+use mathlib.Core.Path.{_≡_}
 use mathlib.Core.Bool.{true}
 use mathlib.Core.Logic.{_≢_, _↔_, _⊎_, inl, inr, ⊎-elim, Iff·symm}
 use mathlib.Core.List.{List, map}
 use native.Mathlib.Decide.{ℕ-discrete}
 use borrow.Author.Tests.{eqb-true, eq-eqb}
-use lib.ListN.{length, getD, set, List·getD-map}
+use lib.ListN.{length, getD, set}
 use lib.Seq.{getD-set-same, getD-set-other}
 use Rattle.words.specs.Tests.{or-iff, and-iff, not-iff, eqb-iff}
 use Rattle.words.specs.Word.{has, with, without}
-use Rattle.words.specs.WordLaws.{has-zero, has-with, has-without, without-none}
+use Rattle.words.specs.WordLaws.{has-with, has-without}
+use Rattle.words.specs.Cleared.{map-without}
 
 -- what holds of the new element at i, and of the old ones elsewhere, holds after a store at i
 pub stored : {A : Type 0} (l : List A) (d : A) (i : ℕ) (a : A) (F : A → Type 0) → i < length l → (x : ℕ) → (x ≡ i → F a) → (x ≢ i → F (getD l x d)) → F (getD (set l i a) x d)
@@ -37,7 +38,4 @@ marked l a s lt q u =
 
 -- bit u of word q after bit s of every word is cleared
 pub wiped : (l : List ℕ) (s q u : ℕ) → ((u ≢ s) × (has (getD l q 0) u ≡ true)) ↔ (has (getD (map (λ w. without w s) l) q 0) u ≡ true)
-wiped l s q u = rw same (Iff·symm (without-iff (getD l q 0) s u))
-  where
-    same : getD (map (λ w. without w s) l) q 0 ≡ without (getD l q 0) s
-    same = subst (λ d. getD (map (λ w. without w s) l) q d ≡ without (getD l q 0) s) (without-none 0 s (has-zero s)) (List·getD-map (λ w. without w s) l q 0)
+wiped l s q u = rw (map-without l s q) (Iff·symm (without-iff (getD l q 0) s u))

@@ -1,17 +1,15 @@
 -- What holds of every word of a part of a table.
-use mathlib.Core.Path.{_≡_, sym, ap, _∙_}
-use mathlib.Core.Bool.{Bool, true, false}
+use mathlib.Core.Path.{_≡_, sym, _∙_}
+use mathlib.Core.Bool.{true, false}
 use mathlib.Core.List.{List}
-use mathlib.Core.Logic.{_≢_, _⊎_, ⊎-elim, inl, inr}
+use mathlib.Core.Logic.{_⊎_, ⊎-elim, inl, inr}
 use Prim.Native.Nat.{ℕ, _+_, _≤_, _<_}
 use native.Mathlib.Omega.{arith}
 use lib.Bits.{bitAnd, bitOr}
-use lib.ListN.{length, getD, set}
-use lib.Seq.{set-getD, getD-set-other}
+use lib.ListN.{getD}
 use Rattle.words.specs.Tests.{below, which, not-both, and-iff, or-iff}
-use Rattle.words.specs.Word.{has, without, within}
-use Rattle.words.specs.WordLaws.{has-and, has-or, within-bits, without-none}
-use Rattle.words.specs.Passes.{Carried, carry-skip}
+use Rattle.words.specs.Word.{has, within}
+use Rattle.words.specs.WordLaws.{has-and, has-or, within-bits}
 
 -- each word of l from word n to before word m has P
 pub record Each (P : ℕ → Type 0) (n m : ℕ) (l : List ℕ) : Type 0 where
@@ -30,13 +28,6 @@ each-turn {P} {Q} {n} {m} {l} f p q = record { at = λ i a b. ⊎-elim (λ c. f 
     last i b c =
         let e : i ≡ m = omega arith in
         rw e q
-
--- the first word changes and counts no more
-pub each-past : {P : ℕ → Type 0} {n m : ℕ} {l : List ℕ} (v : ℕ) → Each P n m l → Each P (n + 1) m (set l n v)
-each-past {P} {n} {m} {l} v p = record { at = λ i a b. rw (getD-set-other l n i v 0 (apart i a)) (p .at i (omega arith) b) }
-  where
-    apart : (i : ℕ) → n + 1 ≤ i → i ≢ n
-    apart i a e = omega arith
 
 -- fewer words
 pub each-less : {P : ℕ → Type 0} {n m k : ℕ} {l : List ℕ} → Each P n m l → k ≤ m → Each P n k l
@@ -62,22 +53,13 @@ each-and {n} {m} {l} b p = each-turn (λ w h. and-in w (λ s e f. within-bits b 
     and-in : (w : ℕ) → ((s : ℕ) → has b s ≡ true → has v s ≡ true → has w s ≡ true) → within (bitAnd b v) w ≡ true
     and-in w f = within-bits (bitAnd b v) w .1 (λ s e. let h = and-iff (has b s) (has v s) .0 (sym (has-and b v s) ∙ e) in f s (h .0) (h .1))
 
--- where a test finds a bit in what is within each word, all of them have it
-pub each-with : {n m : ℕ} {l : List ℕ} {r : Bool} (b s : ℕ) → Each (λ w. within b w ≡ true) n m l → r ≡ has b s → r ≡ true → Each (λ w. has w s ≡ true) n m l
-each-with {n} {m} {l} b s p e h = record { at = λ i x y. within-bits b (getD l i 0) .0 (p .at i x y) s (sym e ∙ h) }
+-- a bit of what is within each word is in all of them
+pub each-has : {n m : ℕ} {l : List ℕ} (b s : ℕ) → Each (λ w. within b w ≡ true) n m l → has b s ≡ true → Each (λ w. has w s ≡ true) n m l
+each-has {n} {m} {l} b s p h = record { at = λ i x y. within-bits b (getD l i 0) .0 (p .at i x y) s h }
 
--- where it does not find it in what each word is within, a pass that clears it has nothing to do
-pub each-skip : {n m : ℕ} {l : List ℕ} {r : Bool} (b s : ℕ) → Each (λ w. within w b ≡ true) n m l → r ≡ has b s → r ≡ false → n ≤ m → m ≤ length l
-    → Carried (λ w. without w s) n m l l
-each-skip {n} {m} {l} b s p e h a z = carry-skip (λ w. without w s) 0 a z (λ i x y. without-none (getD l i 0) s (none (getD l i 0) (p .at i x y)))
+-- a bit that is not in what each word is within is in none of them
+pub each-lacks : {n m : ℕ} {l : List ℕ} (b s : ℕ) → Each (λ w. within w b ≡ true) n m l → has b s ≡ false → Each (λ w. has w s ≡ false) n m l
+each-lacks {n} {m} {l} b s p h = record { at = λ i x y. lacks (getD l i 0) (p .at i x y) }
   where
-    none : (w : ℕ) → within w b ≡ true → has w s ≡ false
-    none w q = ⊎-elim (λ f. not-both (within-bits w b .0 q s f) (sym e ∙ h)) (λ f. f) (which (has w s))
-
--- a test finds a bit in a word
-pub found : (w s : ℕ) {r : Bool} → r ≡ has w s → r ≡ true → has w s ≡ true
-found w s e h = sym e ∙ h
-
--- where it does not, clearing the bit stores what was there
-pub kept : {r : Bool} (l : List ℕ) (i s : ℕ) → r ≡ has (getD l i 0) s → r ≡ false → l ≡ set l i (without (getD l i 0) s)
-kept l i s e h = sym (ap (set l i) (without-none (getD l i 0) s (sym e ∙ h)) ∙ set-getD l i 0)
+    lacks : (w : ℕ) → within w b ≡ true → has w s ≡ false
+    lacks w q = ⊎-elim (λ e. not-both (within-bits w b .0 q s e) h) (λ e. e) (which (has w s))

@@ -1,7 +1,9 @@
 -- `words::clear_block` meets its contract: what the looks find is in all words, or in none.
+use mathlib.Core.Path.{sym, _∙_}
 use borrow.Author.Needs.{needs}
 use borrow.Author.Tests.{not-true}
-use Rattle.words.specs.Each.{each-with, each-skip}
+use Rattle.words.specs.Each.{each-has, each-lacks}
+use Rattle.words.specs.Cleared.{cleared-skip}
 use Rattle.words.proofs.clear_block.Statement.{statement}
 use Rattle.words.proofs.clear_block.Tie as tie
 
@@ -21,7 +23,7 @@ has-bit-requires-2 : tie.Need-has-bit-requires-2
 has-bit-requires-2 c κs = search needs
 
 clear-all-requires : tie.Need-clear-all-requires
-clear-all-requires c κs = (search needs, search needs, each-with _ _ (c .before .before .before .all-have .ensures) (c .before .before .has-bit2 .ensures) (c .before .if2 .taken))
+clear-all-requires c κs = (search needs, search needs, each-has _ _ (c .before .before .before .all-have .ensures) (sym (c .before .before .has-bit2 .ensures) ∙ c .before .if2 .taken))
 
 same-length : tie.Need-same-length
 same-length c = search needs
@@ -39,7 +41,7 @@ same-length-2 : tie.Need-same-length-2
 same-length-2 c = search needs
 
 returns-2 : tie.Need-returns-2
-returns-2 c = each-skip _ _ (c .before .before .some-have .ensures) (c .before .has-bit3 .ensures) (not-true _ (c .if3 .taken)) (search needs) (search needs)
+returns-2 c = cleared-skip (each-lacks _ _ (c .before .before .some-have .ensures) (sym (c .before .has-bit3 .ensures) ∙ not-true _ (c .if3 .taken)))
 
 clear-groups-requires : tie.Need-clear-groups-requires
 clear-groups-requires c κs = search needs

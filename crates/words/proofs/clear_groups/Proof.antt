@@ -1,19 +1,18 @@
--- `words::clear_groups` meets its contract: one part of the pass after another.
+-- `words::clear_groups` meets its contract: one part after another.
 use borrow.Author.Needs.{needs}
 use Prim.Native.Nat.{_-_, _≤_}
-use Rattle.words.specs.Word.{without}
-use Rattle.words.specs.Passes.{Carried, carry-begin, carry-join}
+use Rattle.words.specs.Cleared.{Cleared, cleared-none, cleared-join}
 use Rattle.words.proofs.clear_groups.Statement.{statement}
 use Rattle.words.proofs.clear_groups.Tie as tie
 
 abbrev Inv-loop : tie.InvT-loop
-Inv-loop t₀ from to s i₀ t i = Carried (λ w. without w s) from i t₀ t × (i ≤ to)
+Inv-loop t₀ from to s i₀ t i = Cleared s from i t₀ t × (from ≤ i) × (i ≤ to)
 
 abbrev μ-loop : tie.MeasureT-loop
 μ-loop t₀ from to s i₀ t i = to - i
 
 loop-holds : tie.Need-loop-holds Inv-loop μ-loop
-loop-holds c = (carry-begin _ _ _, search needs)
+loop-holds c = (cleared-none _ _ _, search needs, search needs)
 
 sub-loop : tie.Need-sub-loop Inv-loop μ-loop
 sub-loop c = search needs
@@ -31,7 +30,7 @@ loop-less : tie.Need-loop-less Inv-loop μ-loop
 loop-less c = search needs
 
 loop-again : tie.Need-loop-again Inv-loop μ-loop
-loop-again c = (search (carry-join, needs), search needs)
+loop-again c = (cleared-join (c .before .before .before .before .before .loop .inv .0) (c .before .before .clear-words .ensures) (search needs) (search needs), search needs, search needs)
 
 clear-words-requires-2 : tie.Need-clear-words-requires-2 Inv-loop μ-loop
 clear-words-requires-2 c κs = search needs
@@ -40,7 +39,7 @@ same-length : tie.Need-same-length Inv-loop μ-loop
 same-length c = search needs
 
 returns : tie.Need-returns Inv-loop μ-loop
-returns c = search (carry-join, needs)
+returns c = search (cleared-join, needs)
 
 pub clear-groups-spec : {M : Type 1} → statement M
 clear-groups-spec =

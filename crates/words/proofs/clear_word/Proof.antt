@@ -1,7 +1,8 @@
 -- `words::clear_word` meets its contract: a word without the bit is as it would be stored.
+use mathlib.Core.Path.{sym, _∙_}
 use borrow.Author.Needs.{needs}
 use borrow.Author.Tests.{not-true, not-false}
-use Rattle.words.specs.Each.{found, kept}
+use Rattle.words.specs.Cleared.{cleared-kept}
 use Rattle.words.proofs.clear_word.Statement.{statement}
 use Rattle.words.proofs.clear_word.Tie as tie
 
@@ -15,10 +16,10 @@ has-bit-requires : tie.Need-has-bit-requires
 has-bit-requires c κs = search needs
 
 returns : tie.Need-returns
-returns c = kept _ _ _ (c .before .has-bit .ensures) (not-true _ (c .if1 .taken))
+returns c = cleared-kept _ _ _ (sym (c .before .has-bit .ensures) ∙ not-true _ (c .if1 .taken))
 
 drop-bit-requires : tie.Need-drop-bit-requires
-drop-bit-requires c κs = (search needs, found _ _ (c .before .before .has-bit .ensures) (not-false _ (c .before .if1 .left)))
+drop-bit-requires c κs = (search needs, sym (c .before .before .has-bit .ensures) ∙ not-false _ (c .before .if1 .left))
 
 same-length : tie.Need-same-length
 same-length c = search needs
