@@ -1,6 +1,6 @@
 /* Tables on copy-on-write pages: FINISH stores only words that have the seat's bit, so a page without one is not copied. Each case
    lays both tables in a file, maps it privately, finishes a seat there and prints how many pages the kernel then counts as copies.
-   Exits 0 only if all are as many as they must be and the tables hold what they must. */
+   Exits 0 only if all are as many as they must be and the tables hold what they must, or where it says that it is left out. */
 #define _POSIX_C_SOURCE 200809L
 #include "saltlicker.h"
 #include <stdio.h>

@@ -25,9 +25,11 @@ pub map-without : (l : List ℕ) (s i : ℕ) → getD (map (λ w. without w s) l
 map-without l s i =
     subst (λ d. getD (map (λ w. without w s) l) i d ≡ without (getD l i 0) s) (without-none 0 s (has-zero s)) (List·getD-map (λ w. without w s) l i 0)
 
+-- nothing is done yet
 pub cleared-none : (s n : ℕ) (l : List ℕ) → Cleared s n n l l
 cleared-none s n l = record { long = refl; inside = λ i a b. absurd (omega arith); beside = λ i o. refl }
 
+-- one word more is stored
 pub cleared-turn : {s n m : ℕ} {l l′ : List ℕ} → Cleared s n m l l′ → n ≤ m → m < length l′ → Cleared s n (m + 1) l (set l′ m (without (getD l′ m 0) s))
 cleared-turn {s} {n} {m} {l} {l′} c a h =
     record {
@@ -55,9 +57,11 @@ cleared-next {P} {s} {n} {m} {i} {l} {l′} p c a b = rw (c .beside i (inr (omeg
 pub cleared-kept : (l : List ℕ) (i s : ℕ) → has (getD l i 0) s ≡ false → l ≡ set l i (without (getD l i 0) s)
 cleared-kept l i s h = sym (ap (set l i) (without-none (getD l i 0) s h) ∙ set-getD l i 0)
 
+-- words that do not have the bit are as they would be
 pub cleared-skip : {s n m : ℕ} {l : List ℕ} → Each (λ w. has w s ≡ false) n m l → Cleared s n m l l
 cleared-skip {s} {n} {m} {l} p = record { long = refl; inside = λ i a b. sym (without-none (getD l i 0) s (p .at i a b)); beside = λ i o. refl }
 
+-- one part after another
 pub cleared-join : {s n m k : ℕ} {l l′ l″ : List ℕ} → Cleared s n m l l′ → Cleared s m k l′ l″ → n ≤ m → m ≤ k → Cleared s n k l l″
 cleared-join {s} {n} {m} {k} {l} {l′} {l″} c e a b =
     record {
@@ -72,6 +76,7 @@ cleared-to {s} {n} {m} {k} c a b =
     let e : k ≡ m = omega arith in
     rw e c
 
+-- from the first word to the last
 pub cleared-end : {s m : ℕ} {l l′ : List ℕ} → Cleared s 0 m l l′ → length l ≤ m → l′ ≡ map (λ w. without w s) l
 cleared-end {s} {m} {l} {l′} c h =
     ext-getD 0 l′ (map (λ w. without w s) l) (c .long ∙ sym (length-map l (λ w. without w s))) (λ i b. c .inside i (omega arith) (omega arith) ∙ sym (map-without l s i))

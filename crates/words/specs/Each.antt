@@ -17,6 +17,7 @@ pub record Each (P : ℕ → Type 0) (n m : ℕ) (l : List ℕ) : Type 0 where
 
 -- ---- laws
 
+-- no word yet
 pub each-none : {P : ℕ → Type 0} {n : ℕ} {l : List ℕ} → Each P n n l
 each-none = record { at = λ i a b. absurd (omega arith) }
 
