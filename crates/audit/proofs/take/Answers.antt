@@ -1,10 +1,7 @@
 -- Where the answer does not call for the event, the tables are as they were.
-use Rattle.std.proofs.Common.{rules}
-use Rattle.audit.proofs.Asking.{err_calls, barred_keeps}
+use Rattle.std.proofs.Common.{◌∙◌, sym}
+use Rattle.audit.proofs.Asking.{barred_keeps}
 use Rattle.audit.proofs.take.Goals as goal
 
-pub returns-in_default-clause-kept : goal.returns-in_default-clause-kept
-returns-in_default-clause-kept c = λ n. barred_keeps c.args.event _ c.judge-reply.result c.judge-reply.ensures c.request_for-request.ensures (err_calls c.args.event c.in_default.is)
-
-pub returns-then-not-calls_for-clause-kept : goal.returns-then-not-calls_for-clause-kept
-returns-then-not-calls_for-clause-kept c = λ n. barred_keeps c.args.event _ c.judge-reply.result c.judge-reply.ensures c.request_for-request.ensures (rw c.in-Ok.is (search rules))
+pub returns-clause-kept : goal.returns-clause-kept
+returns-clause-kept c = λ n. barred_keeps c.args.event _ c.ask-answer.ensures c.request_for-request.ensures (sym c.calls_for.ensures ∙ c.if-calls_for.false)

@@ -4,4 +4,4 @@ use Rattle.text.specs.Pages.{Leaves}
 use Rattle.text.proofs.Page.put_bytes.Given as goal
 
 abbrev pub invariant-loop-b : goal.invariant-loop-b
-invariant-loop-b l = Leaves (drop l.b-index l.s) l.self l.s l.initial.self
+invariant-loop-b l = Leaves (drop l.b-index l.s) l.page l.s l.initial.page
