@@ -1,4 +1,4 @@
--- Where the answer does not call for the event, the tables are as they were.
+-- Where the answer does not call for the event, all is as it was.
 use Rattle.std.proofs.Common.{◌∙◌, sym}
 use Rattle.audit.proofs.Asking.{barred_keeps}
 use Rattle.audit.proofs.take.Goals as goal
